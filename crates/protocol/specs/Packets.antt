@@ -124,6 +124,9 @@ note s p t =
 unfoldable pub ack : State → Packet → State
 ack s p = new-table s (p .receiver) (change1 (for-message (p .sender) (p .sn)) note-entry (s .live (p .receiver) .table))
 
+unfoldable pub is-worked : Memory → ℕ → ℕ → Bool
+is-worked m s n = worked (m .mark s) (m .window s) n
+
 unfoldable pub entry-of : State → Packet → Option Entry
 entry-of s p = entry (s .live (p .receiver) .table) (p .sender) (p .sn)
 
@@ -132,7 +135,7 @@ lookup-of s p = lookup (s .live (p .sender) .log) (p .receiver) (p .sn)
 
 -- what a packet does where it arrives
 unfoldable pub arrive : State → Packet → Content → State
-arrive s p ASK = ask s p (entry-of s p) (worked (s .live (p .receiver)) (p .sender) (p .sn))
+arrive s p ASK = ask s p (entry-of s p) (is-worked (s .live (p .receiver)) (p .sender) (p .sn))
 arrive s p GRANT-old = grant-old s p (lookup-of s p)
 arrive s p (GRANT-received t) = grant-received s p t (lookup-of s p)
 arrive s p (GRANT-new t) = grant-new s p t (lookup-of s p)

@@ -13,11 +13,11 @@ use Rattle.protocol.specs.declared.Packet.{Packet}
 use Rattle.protocol.specs.declared.Content.{Content}
 use Rattle.protocol.specs.declared.Content.the-variants.{Ask as ASK, GrantOld as GRANT-old, GrantReceived as GRANT-received, GrantNew as GRANT-new, Data as DATA, Note as NOTE, Ack as ACK}
 use Rattle.protocol.specs.Parts.{Job, Memory, State, with-memory, log-room, table-room, note-room, wire-room, most, every-chare, up, on, is-down}
-use Rattle.protocol.specs.Window.{admitted, worked, risen-mark}
+use Rattle.protocol.specs.Window.{admitted, risen-mark}
 use Rattle.protocol.specs.Tickets.{entry, new-tn}
 use Rattle.protocol.specs.Sending.{is-local, send}
 use Rattle.protocol.specs.Working.{next-entry, worked-only, value-out, hops-out, receivers-of, work-next}
-use Rattle.protocol.specs.Packets.{destination, is-named, is-noted, note-of, entry-of}
+use Rattle.protocol.specs.Packets.{destination, is-named, is-noted, note-of, entry-of, is-worked}
 use Rattle.protocol.specs.Restart.{filled-table, restart}
 use Rattle.protocol.specs.Frames.{Frame, job, inject, deliver, work, checkpoint, crash, restart as restart-frame, show, between}
 use Rattle.protocol.specs.Job.{job-in-range}
@@ -52,7 +52,7 @@ unfoldable pub numbers-fit : State → ℕ → ℕ → Bool
 numbers-fit s a b = leb (sn-to-send s a b) most && (not (takes-ticket s a b) || leb (new-tn (s .live b)) most)
 
 unfoldable pub window-admits : State → ℕ → ℕ → Bool
-window-admits s a b = not (takes-ticket s a b) || admitted (s .live b) a (sn-to-send s a b)
+window-admits s a b = not (takes-ticket s a b) || admitted (s .live b .mark a) (sn-to-send s a b)
 
 unfoldable pub log-has-room : State → ℕ → ℕ → Bool
 log-has-room s a b = ltb (length (s .live a .log)) log-room
@@ -83,7 +83,7 @@ inject-questions s c value hops =
 
 -- frame 11. 7, 8 and 10 for a packet on the wire: an ASK that needs a new ticket, a NOTE that is not present
 unfoldable pub is-new : State → Packet → Bool
-is-new s p = no-entry (entry-of s p) && not (worked (s .live (p .receiver)) (p .sender) (p .sn))
+is-new s p = no-entry (entry-of s p) && not (is-worked (s .live (p .receiver)) (p .sender) (p .sn))
 
 unfoldable pub ticket-fits : State → Packet → Content → Bool
 ticket-fits s p ASK = not (is-new s p) || leb (new-tn (s .live (p .receiver))) most
@@ -95,7 +95,7 @@ ticket-fits s p (NOTE t) = true
 ticket-fits s p ACK = true
 
 unfoldable pub ticket-admitted : State → Packet → Content → Bool
-ticket-admitted s p ASK = not (is-new s p) || admitted (s .live (p .receiver)) (p .sender) (p .sn)
+ticket-admitted s p ASK = not (is-new s p) || admitted (s .live (p .receiver) .mark (p .sender)) (p .sn)
 ticket-admitted s p GRANT-old = true
 ticket-admitted s p (GRANT-received t) = true
 ticket-admitted s p (GRANT-new t) = true
@@ -140,11 +140,14 @@ deliver-questions s k a r n =
 unfoldable pub put-to-sends : (State → ℕ → ℕ → Bool) → State → ℕ → Entry → Bool
 put-to-sends q s c e = put-to-all q (worked-only s c e) c (receivers-of s c e) (value-out s c e) (hops-out e)
 
+unfoldable pub mark-after : Memory → Entry → ℕ
+mark-after m e = risen-mark (m .mark (e .sender)) (m .window (e .sender)) (e .sn)
+
 unfoldable pub entry-questions : State → ℕ → Option Entry → List Bool
 entry-questions s c none = false ∷ []
 entry-questions s c (some e) =
     (e .received && e .noted)
-    ∷ (leb (s .live c .height + 1) most && leb (risen-mark (s .live c) (e .sender) (e .sn)) most && put-to-sends numbers-fit s c e)
+    ∷ (leb (s .live c .height + 1) most && leb (mark-after (s .live c) e) most && put-to-sends numbers-fit s c e)
     ∷ put-to-sends window-admits s c e
     ∷ put-to-sends log-has-room s c e
     ∷ put-to-sends table-has-room s c e

@@ -73,8 +73,9 @@ filled-table s p c =
 -- "P takes its copy": what chare c has after the restart; `top` gives the holes
 unfoldable pub restored : State → ℕ → ℕ → Memory
 restored s p c =
-    let m = with-table (s .copy c) (filled-table s p c) in
-    with-top m (highest m)
+    let m = s .copy c in
+    let l = filled-table s p c in
+    with-top (with-table m l) (highest (m .height) l)
 
 -- the TN to reach: below the first hole, or the highest
 unfoldable pub below-hole : Option ℕ → ℕ → ℕ
@@ -82,7 +83,7 @@ below-hole (some t) d = t - 1
 below-hole none d = d
 
 unfoldable pub target-of : Memory → ℕ
-target-of m = below-hole (lowest-hole m) (highest m)
+target-of m = below-hole (lowest-hole (m .height) (m .top) (m .table)) (highest (m .height) (m .table))
 
 -- "Then, over all logs by sender, receiver, SN: a message from elsewhere to P is sent as DATA if its TN is above the height, as ASK
 -- if it has none; a message from P to another machine without TN as ASK."

@@ -19,12 +19,9 @@ unfoldable pub has-tn : ℕ → Entry → Bool
 has-tn t e = eqb (e .tn) t
 
 -- "the highest is the largest of the height and the table's TNs"
-unfoldable pub highest-in : ℕ → List Entry → ℕ
-highest-in h [] = h
-highest-in h (e ∷ l) = max (e .tn) (highest-in h l)
-
-unfoldable pub highest : Memory → ℕ
-highest m = highest-in (m .height) (m .table)
+unfoldable pub highest : ℕ → List Entry → ℕ
+highest height [] = height
+highest height (e ∷ l) = max (e .tn) (highest height l)
 
 -- the first of the k numbers from t on that no entry has as its TN
 unfoldable pub first-free : ℕ → ℕ → List Entry → Option ℕ
@@ -33,16 +30,19 @@ first-free (suc k) t l = cond (anyb (has-tn t) l) (first-free k (suc t) l) (some
 
 -- "TNs above the height and below the highest with no entry, and no others, are holes", the highest being that of the restart:
 -- `top` keeps it, and the holes are read off. (New tickets fill them from below, and a TN at or below the height was worked.)
-unfoldable pub lowest-hole : Memory → Option ℕ
-lowest-hole m = first-free (m .top - m .height - 1) (m .height + 1) (m .table)
+unfoldable pub lowest-hole : ℕ → ℕ → List Entry → Option ℕ
+lowest-hole height top l = first-free (top - height - 1) (height + 1) l
 
 unfoldable pub hole-or : Option ℕ → ℕ → ℕ
 hole-or (some t) d = t
 hole-or none d = d
 
 -- "New tickets use the lowest hole, if any, else the highest TN so far plus 1"
+unfoldable pub next-tn : ℕ → ℕ → List Entry → ℕ
+next-tn height top l = hole-or (lowest-hole height top l) (highest height l + 1)
+
 unfoldable pub new-tn : Memory → ℕ
-new-tn m = hole-or (lowest-hole m) (highest m + 1)
+new-tn m = next-tn (m .height) (m .top) (m .table)
 
 -- the entry received, with the message's value and hops
 unfoldable pub fill : ℕ → ℕ → Entry → Entry
