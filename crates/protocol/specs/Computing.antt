@@ -68,7 +68,7 @@ unfolding crash.is-normal crash.has-cover crash.survives crash.kept-by crash.cra
 opened-crash = tt
 
 unfoldable pub opened-restart : Unit {0}
-unfolding restart.copied-ticket restart.logged-ticket restart.noted-ticket restart.is-ticketed-above restart.other-log restart.is-noted-above restart.known-tickets restart.enter restart.enter-all restart.restored-table restart.local-log restart.fill-all restart.filled-table restart.restored restart.below-hole restart.target-of restart.from-elsewhere restart.from-here restart.resend restart.log-order restart.resends restart.restore restart.restart restart.has-caught-up restart.is-done restart.settle
+unfolding restart.copied-ticket restart.logged-ticket restart.noted-ticket restart.is-ticketed-above restart.other-log restart.is-noted-above restart.known-tickets restart.enter restart.enter-all restart.restored-table restart.local-log restart.fill-all restart.filled-table restart.restored restart.below-hole restart.target-of restart.from-elsewhere restart.from-here restart.resend restart.log-order restart.resends restart.restore restart.restart restart.has-caught-up restart.is-done restart.settle-machine restart.settle-all restart.settle
 opened-restart = tt
 
 unfoldable pub opened-frames : Unit {0}

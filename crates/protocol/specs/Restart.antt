@@ -13,7 +13,7 @@ use Rattle.protocol.specs.declared.Packet.{Packet}
 use Rattle.protocol.specs.declared.Content.the-variants.{Ask as ASK, Data as DATA}
 use Rattle.protocol.specs.declared.Status.{Status}
 use Rattle.protocol.specs.declared.Status.the-variants.{Up, CatchingUp}
-use Rattle.protocol.specs.Parts.{Job, Memory, State, with-table, with-top, with-live, with-status, with-wire, on, every-chare, every-sender, is-catching-up, at-home}
+use Rattle.protocol.specs.Parts.{Job, Memory, State, with-table, with-top, with-live, with-status, with-wire, on, every-chare, every-sender, every-machine, is-catching-up, at-home}
 use Rattle.protocol.specs.Tickets.{for-message, filled, highest, lowest-hole, unreceived}
 use Rattle.protocol.specs.Packets.{goes-to}
 use Rattle.protocol.specs.Sending.{about}
@@ -131,9 +131,13 @@ has-caught-up s c = leb (s .target c) (s .live c .height) && allb (λ x. not (eq
 unfoldable pub is-done : State → ℕ → Bool
 is-done s p = is-catching-up (s .status p) && allb (λ c. has-caught-up s c) (keep (on (s .job) p) every-chare)
 
--- "after some step (the restart itself included)": the machines that are done are catching up no longer
+-- "after some step (the restart itself included)": a machine that is done is catching up no longer
+unfoldable pub settle-machine : State → ℕ → State
+settle-machine s p = cond (is-done s p) (with-status s (upd p Up (s .status)) (at-home (s .job) p (λ c t. 0) (s .target))) s
+
+unfoldable pub settle-all : State → List ℕ → State
+settle-all s [] = s
+settle-all s (p ∷ l) = settle-all (settle-machine s p) l
+
 unfoldable pub settle : State → State
-settle s =
-    with-status s
-    (λ p. cond (is-done s p) Up (s .status p))
-    (λ c. cond (is-done s (s .job .home c)) 0 (s .target c))
+settle s = settle-all s every-machine
