@@ -1,0 +1,128 @@
+//! Deliveries, one function per kind of packet.
+
+use crate::answer::Question;
+use crate::job::{ix, Job};
+use crate::limits::MAX_NUMBER;
+use crate::message::{Body, Lookup};
+use crate::table::Entry;
+use crate::wire::{Content, Kind, Name};
+use crate::world::{destination, Note, World};
+
+impl World {
+    pub fn deliver(&mut self, job: &Job, name: Name) -> Result<(), Question> {
+        if !self.is_up(destination(job, name)) {
+            return Err(Question::Up);
+        }
+        let Some(at) = self.wire.find(name) else {
+            return Err(Question::Present);
+        };
+        // An answering packet takes the place that the delivered one leaves, so the wire never
+        // refuses.
+        let content = self.wire.content(at);
+        let reply = match content {
+            Content::Ask => Some((Kind::Grant, self.ask(name)?)),
+            Content::GrantOld | Content::GrantReceived(_) | Content::GrantNew(_) => {
+                self.grant(name, content)
+            }
+            Content::Data { value, hops } => {
+                self.data(name, Body { value, hops });
+                None
+            }
+            Content::Note(tn) => Some((Kind::Ack, self.note(job, name, tn)?)),
+            Content::Ack => {
+                self.ack(name);
+                None
+            }
+        };
+        self.wire.remove(at);
+        if let Some((kind, content)) = reply {
+            self.wire.push(name.with_kind(kind), content);
+        }
+        Ok(())
+    }
+
+    /// The GRANT for a message, with a new ticket if it has none and is not worked.
+    fn ask(&mut self, name: Name) -> Result<Content, Question> {
+        let (sender, sn) = (name.sender(), name.sn());
+        let chare = &mut self.chares[ix(name.receiver())];
+        if let Some(at) = chare.table.find(sender, sn) {
+            let entry = &chare.table.0[at];
+            return Ok(match entry.received {
+                Some(_) => Content::GrantReceived(entry.tn),
+                None => Content::GrantNew(entry.tn),
+            });
+        }
+        let seen = &chare.seen[sender as usize];
+        if seen.has(sn) {
+            return Ok(Content::GrantOld);
+        }
+        let tn = chare.next_ticket(None);
+        if tn > MAX_NUMBER {
+            return Err(Question::Number);
+        }
+        if !seen.admits(sn) {
+            return Err(Question::Window);
+        }
+        // Noted from the start: the sender's log keeps this ticket.
+        let entered = chare.table.0.push(Entry {
+            sender,
+            sn,
+            tn,
+            received: None,
+            noted: true,
+        });
+        if !entered {
+            return Err(Question::Space);
+        }
+        Ok(Content::GrantNew(tn))
+    }
+
+    fn grant(&mut self, name: Name, content: Content) -> Option<(Kind, Content)> {
+        let log = self.log_mut(name.sender());
+        let Lookup::Waiting(at) = log.look_up(name.receiver(), name.sn()) else {
+            return None;
+        };
+        match content {
+            Content::GrantReceived(tn) => {
+                log.0[at].tn = Some(tn);
+                None
+            }
+            Content::GrantNew(tn) => {
+                log.0[at].tn = Some(tn);
+                Some((Kind::Data, Content::data(log.0[at].body)))
+            }
+            _ => {
+                log.0.remove(at);
+                None
+            }
+        }
+    }
+
+    fn data(&mut self, name: Name, body: Body) {
+        let table = &mut self.chares[ix(name.receiver())].table;
+        if let Some(at) = table.find(name.sender(), name.sn()) {
+            table.0[at].received.get_or_insert(body);
+        }
+    }
+
+    fn note(&mut self, job: &Job, name: Name, tn: u16) -> Result<Content, Question> {
+        let note = Note {
+            sender: name.sender(),
+            receiver: name.receiver(),
+            sn: name.sn(),
+            tn,
+        };
+        let notes = &mut self.backups[ix(job.machine_of(note.receiver))].notes;
+        if !notes.contains(&note) && !notes.push(note) {
+            return Err(Question::Space);
+        }
+        Ok(Content::Ack)
+    }
+
+    fn ack(&mut self, name: Name) {
+        let table = &mut self.chares[ix(name.receiver())].table;
+        if let Some(at) = table.find(name.sender(), name.sn()) {
+            table.0[at].noted = true;
+        }
+    }
+}

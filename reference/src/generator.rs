@@ -1,0 +1,275 @@
+//! Random lists that look at the running state to get somewhere.
+
+use crate::answer::{Answer, Question};
+use crate::encode::{bytes, put_digits};
+use crate::frame::{parse, Frame};
+use crate::job::{ix, Job};
+use crate::junk::{bad_job, blind_frame, put_garbled};
+use crate::layout::random_job;
+use crate::limits::MAX_HOPS;
+use crate::load::Load;
+use crate::mood::{Act, Mood, Theme, ACTS};
+use crate::rng::Rng;
+use crate::state::State;
+use crate::wire::Name;
+use crate::world::Phase;
+
+/// How the digits of a list are written.
+#[derive(Clone, Copy, PartialEq)]
+enum Letters {
+    Capital,
+    Small,
+    Mixed,
+}
+
+pub struct Generator {
+    pub(crate) rng: Rng,
+    theme: Theme,
+    pub(crate) mood: Mood,
+    letters: Letters,
+    /// Frames still to come.
+    left: usize,
+    /// Frames still to come in this mood.
+    mood_left: usize,
+    /// When so few frames are left, the run may be lost.
+    doom: usize,
+    /// A packet that is not delivered for now, and for how many frames.
+    pub(crate) held: Option<(Name, usize)>,
+    load: Option<Load>,
+    /// Frames refused for want of space since the last one that was accepted.
+    pub(crate) cramped: usize,
+    /// Was the last frame an inject, a delivery or a work?
+    moving: bool,
+    /// Frames since the last one of these that was accepted.
+    pub(crate) stuck: usize,
+}
+
+impl Generator {
+    pub fn new(seed: u64, frames: usize) -> Generator {
+        let mut rng = Rng::new(seed);
+        let theme = *rng.pick(&Theme::ALL);
+        let mood = Mood::random(&mut rng, theme);
+        // Every second list may be lost, in its last third, so that lists go deep first.
+        let doom = if rng.one_in(2) {
+            rng.below(frames / 3 + 1)
+        } else {
+            0
+        };
+        Generator {
+            theme,
+            letters: *rng.pick(&[Letters::Capital, Letters::Small, Letters::Mixed]),
+            left: frames,
+            mood_left: mood.lasts,
+            doom,
+            held: None,
+            load: None,
+            cramped: 0,
+            moving: false,
+            stuck: 0,
+            mood,
+            rng,
+        }
+    }
+
+    /// Tells the list how its last frame was answered.
+    pub fn heard(&mut self, answer: Answer) {
+        self.stuck += 1;
+        match answer {
+            Answer::Accepted => {
+                self.cramped = 0;
+                if self.moving {
+                    self.stuck = 0;
+                }
+            }
+            Answer::Refused(question) if question >= Question::LogSpace => self.cramped += 1,
+            _ => {}
+        }
+    }
+
+    /// The works that one more injection may lead to.
+    pub(crate) fn load_left(&self, job: &Job, state: &State) -> usize {
+        let load = self.load.as_ref();
+        let outstanding = load.map_or(0, |load| load.outstanding(job, &state.world));
+        self.mood.budget.saturating_sub(outstanding)
+    }
+
+    /// The most hops up to `hops` with which an injection stays within `works`.
+    pub(crate) fn fitting_hops(&self, chare: u8, hops: u8, works: usize) -> Option<u8> {
+        let Some(load) = &self.load else {
+            return Some(hops);
+        };
+        (0..=hops).rev().find(|&h| load.of(chare, h) <= works)
+    }
+
+    /// Adds the next line, newline included, to `out`; says false when the list is at its end.
+    pub fn next(&mut self, state: &State, out: &mut Vec<u8>) -> bool {
+        if self.left == 0 {
+            return false;
+        }
+        if state.lost {
+            // Nothing but 04 can follow: some more frames, then the end.
+            self.left = self.left.min(12);
+        }
+        if self.stuck > 100 {
+            // Choked for good on full logs and tables.
+            self.left = self.left.min(10);
+        }
+        self.left -= 1;
+        self.change_mood();
+        if self.load.is_none() {
+            self.load = state.job.as_ref().map(Load::new);
+        }
+        let start = out.len();
+        match &state.job {
+            None => self.put_before_job(out),
+            Some(job) => self.put_frame(job, state, out),
+        }
+        self.keep_alive(state, start, out);
+        self.write_letters(&mut out[start..]);
+        out.push(b'\n');
+        true
+    }
+
+    /// May the run be lost from now on?
+    pub(crate) fn is_doomed(&self) -> bool {
+        self.left < self.doom
+    }
+
+    fn change_mood(&mut self) {
+        if self.mood_left == 0 {
+            let theme = if self.rng.one_in(3) {
+                *self.rng.pick(&Theme::ALL)
+            } else {
+                self.theme
+            };
+            self.mood = Mood::random(&mut self.rng, theme);
+            self.mood_left = self.mood.lasts;
+            self.held = None;
+        }
+        self.mood_left -= 1;
+    }
+
+    fn put_before_job(&mut self, out: &mut Vec<u8>) {
+        match self.rng.below(12) {
+            0 => put_garbled(&mut self.rng, out),
+            1 => put_digits(out, &bad_job(&mut self.rng)),
+            2 => put_digits(out, &bytes(&blind_frame(&mut self.rng, 6, 12))),
+            _ => {
+                let layout = self.theme.layout(&mut self.rng);
+                let job = Frame::Job(random_job(&mut self.rng, layout));
+                put_digits(out, &bytes(&job));
+            }
+        }
+    }
+
+    fn put_frame(&mut self, job: &Job, state: &State, out: &mut Vec<u8>) {
+        if self.cramped > self.mood.patience && self.rng.one_in(2) {
+            if let Some(frame) = self.relief(job, state) {
+                return put_digits(out, &bytes(&frame));
+            }
+        }
+        let frame = match self.act(state) {
+            Act::Junk => {
+                return match self.rng.below(8) {
+                    0 => put_digits(out, &bad_job(&mut self.rng)),
+                    _ => put_garbled(&mut self.rng, out),
+                }
+            }
+            Act::Blind => self.blind(job, state),
+            Act::Show => Frame::Show {
+                chare: self.rng.between(1, job.chare_count() as usize) as u8,
+            },
+            Act::Inject => self.inject(job, state),
+            Act::Deliver => self.deliver(job, state),
+            Act::Work => self.work(job, state),
+            Act::Checkpoint => self.checkpoint(job, state),
+            Act::Crash => self.crash(job, state),
+            Act::Restart => self.restart(job, state),
+        };
+        put_digits(out, &bytes(&frame));
+    }
+
+    fn blind(&mut self, job: &Job, state: &State) -> Frame {
+        let frame = blind_frame(&mut self.rng, job.machine_count(), job.chare_count());
+        match frame {
+            Frame::Inject { chare, value, hops } if hops <= MAX_HOPS && job.has_chare(chare) => {
+                let left = self.load_left(job, state);
+                let hops = self.fitting_hops(chare, hops, left).unwrap_or(0);
+                Frame::Inject { chare, value, hops }
+            }
+            _ => frame,
+        }
+    }
+
+    fn act(&mut self, state: &State) -> Act {
+        if self.is_doomed() && !state.lost && self.rng.one_in(8) {
+            return Act::Crash;
+        }
+        let down = state.world.phases.contains(&Phase::Down);
+        if down && self.stuck > 12 && self.rng.one_in(3) {
+            return Act::Restart;
+        }
+        // A crash empties much of the wire, so a stingy list fills it first.
+        let wire = state.world.wire.len();
+        let mut weights = self.mood.acts;
+        for (act, weight) in ACTS.iter().zip(&mut weights) {
+            match act {
+                Act::Restart if !down => *weight = 0,
+                Act::Crash if !state.world.all_well() => *weight = 0,
+                Act::Crash if self.mood.desk_only => *weight = 8 * u32::from(wire > 120),
+                _ => {}
+            }
+        }
+        ACTS[self.rng.weighted(&weights)]
+    }
+
+    /// Turns a crash without cover into a show, unless the list is near its end.
+    fn keep_alive(&mut self, state: &State, start: usize, out: &mut Vec<u8>) {
+        let frame = parse(&out[start..]);
+        self.moving = matches!(
+            frame,
+            Some(Frame::Inject { .. } | Frame::Deliver { .. } | Frame::Work { .. })
+        );
+        let (Some(job), Some(Frame::Crash { machine })) = (&state.job, frame) else {
+            return;
+        };
+        let safe = !job.has_machine(machine)
+            || state.world.phases[ix(machine)] == Phase::Down
+            || state.world.has_cover(machine);
+        if !safe && !self.is_doomed() && !self.rng.one_in(4096) {
+            out.truncate(start);
+            put_digits(out, &bytes(&Frame::Show { chare: 1 }));
+        }
+    }
+
+    fn write_letters(&mut self, line: &mut [u8]) {
+        match self.letters {
+            Letters::Capital => {}
+            Letters::Small => line.make_ascii_lowercase(),
+            Letters::Mixed => {
+                for byte in line {
+                    if self.rng.one_in(2) {
+                        byte.make_ascii_lowercase();
+                    }
+                }
+            }
+        }
+    }
+}
+
+/// A whole list. Every fourth ends without a newline.
+pub fn list(seed: u64, frames: usize) -> Vec<u8> {
+    let mut generator = Generator::new(seed, frames);
+    let mut state = State::new();
+    let mut out = Vec::new();
+    let mut start = 0;
+    while generator.next(&state, &mut out) {
+        let answer = state.line(&out[start..out.len() - 1]);
+        generator.heard(answer);
+        start = out.len();
+    }
+    if seed % 4 == 3 {
+        out.pop();
+    }
+    out
+}

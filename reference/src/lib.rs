@@ -1,0 +1,38 @@
+//! A second implementation of the rule book for sender-based message logging on up to six
+//! machines, written apart from the proved engine and compared with it.
+
+// The protocol.
+pub mod answer;
+pub mod chare;
+pub mod deliver;
+pub mod frame;
+pub mod job;
+pub mod limits;
+pub mod list;
+pub mod message;
+pub mod reader;
+pub mod recovery;
+pub mod seen;
+pub mod send;
+pub mod state;
+pub mod table;
+pub mod wire;
+pub mod world;
+
+// Lists of frames to play.
+pub mod choice;
+pub mod encode;
+pub mod generator;
+pub mod junk;
+pub mod layout;
+pub mod load;
+pub mod long;
+pub mod mood;
+pub mod outlook;
+pub mod rng;
+
+// Demand 3, checked on those lists.
+pub mod census;
+pub mod check;
+pub mod history;
+pub mod run;

@@ -1,0 +1,129 @@
+//! The whole state and the step: one frame in, one answer out.
+
+use crate::answer::{Answer, Question};
+use crate::frame::{parse, Frame};
+use crate::job::Job;
+use crate::limits::{MAX_HOPS, MAX_NUMBER};
+use crate::message::Body;
+use crate::wire::{Kind, Name};
+use crate::world::World;
+
+#[derive(Clone, Debug, PartialEq, Eq)]
+pub struct State {
+    pub job: Option<Job>,
+    /// A crash without cover has happened.
+    pub lost: bool,
+    pub world: World,
+}
+
+impl State {
+    pub fn new() -> State {
+        State {
+            job: None,
+            lost: false,
+            world: World::empty(),
+        }
+    }
+
+    /// Answers a line, given without its newline.
+    pub fn line(&mut self, line: &[u8]) -> Answer {
+        match parse(line) {
+            Some(frame) => self.step(&frame),
+            None => Answer::Refused(Question::Form),
+        }
+    }
+
+    /// Answers a well-formed frame. A refused one changes nothing.
+    pub fn step(&mut self, frame: &Frame) -> Answer {
+        self.try_step(frame).unwrap_or_else(Answer::Refused)
+    }
+
+    fn try_step(&mut self, frame: &Frame) -> Result<Answer, Question> {
+        let State { job, lost, world } = self;
+        let job = match (frame, &*job) {
+            (Frame::Job(_), Some(_)) => return Err(Question::Job),
+            (Frame::Job(draft), None) => {
+                let new = Job::from_draft(draft).ok_or(Question::Range)?;
+                world.start(&new);
+                *job = Some(new);
+                return Ok(Answer::Accepted);
+            }
+            (_, None) => return Err(Question::Job),
+            (_, Some(job)) => job,
+        };
+        if !in_range(job, frame) {
+            return Err(Question::Range);
+        }
+        if *lost {
+            return Err(Question::NotLost);
+        }
+        match *frame {
+            Frame::Job(_) => {}
+            Frame::Inject { chare, value, hops } => world.inject(chare, Body { value, hops })?,
+            Frame::Deliver {
+                kind,
+                sender,
+                receiver,
+                sn,
+            } => {
+                let kind = Kind::from_byte(kind).ok_or(Question::Range)?;
+                world.deliver(job, Name::new(kind, sender, receiver, sn))?;
+            }
+            Frame::Work { chare } => world.work(job, chare)?,
+            Frame::Checkpoint { machine } => world.checkpoint(job, machine)?,
+            Frame::Crash { machine } => {
+                if !world.crash(job, machine)? {
+                    *lost = true;
+                    return Ok(Answer::Lost);
+                }
+            }
+            Frame::Restart { machine } => world.restart(job, machine)?,
+            Frame::Show { chare } => {
+                if !world.is_up(job.machine_of(chare)) {
+                    return Err(Question::Up);
+                }
+                let shown = world.chare(chare);
+                return Ok(Answer::Shown {
+                    height: shown.height,
+                    state: shown.state,
+                });
+            }
+        }
+        world.settle(job);
+        Ok(Answer::Accepted)
+    }
+
+    /// Is this a quiet moment: a job set, nothing lost, no machine down or catching up?
+    pub fn is_quiet(&self) -> bool {
+        self.job.is_some() && !self.lost && self.world.all_well()
+    }
+}
+
+impl Default for State {
+    fn default() -> Self {
+        State::new()
+    }
+}
+
+/// Question 3 for every frame but a job.
+fn in_range(job: &Job, frame: &Frame) -> bool {
+    match *frame {
+        Frame::Job(_) => true,
+        Frame::Inject { chare, hops, .. } => job.has_chare(chare) && hops <= MAX_HOPS,
+        Frame::Deliver {
+            kind,
+            sender,
+            receiver,
+            sn,
+        } => {
+            Kind::from_byte(kind).is_some()
+                && sender <= job.chare_count()
+                && job.has_chare(receiver)
+                && (1..=MAX_NUMBER).contains(&sn)
+        }
+        Frame::Work { chare } | Frame::Show { chare } => job.has_chare(chare),
+        Frame::Checkpoint { machine } | Frame::Crash { machine } | Frame::Restart { machine } => {
+            job.has_machine(machine)
+        }
+    }
+}
