@@ -38,6 +38,14 @@ pub and-i : (a b : Bool) → a ≡ true → b ≡ true → (a && b) ≡ true
 and-i true b p q = q
 and-i false b p q = p
 
+-- four at once
+pub and4 : (a b c d : Bool) → (a && b && c && d) ≡ true → (a ≡ true) × (b ≡ true) × (c ≡ true) × (d ≡ true)
+and4 true true true true e = (refl, refl, refl, refl)
+and4 true true true false e = true-not-false e refl
+and4 true true false d e = true-not-false e refl
+and4 true false c d e = true-not-false e refl
+and4 false b c d e = true-not-false e refl
+
 pub and-cases : (a b : Bool) → (a && b) ≡ false → (a ≡ false) ⊎ (b ≡ false)
 and-cases true b e = inr e
 and-cases false b e = inl refl

@@ -2,7 +2,7 @@
 use mathlib.Core.Bool.{Bool, true, cond, not, _&&_}
 use mathlib.Core.List.{List, [], map}
 use Prim.Native.Nat.{ℕ}
-use lib.Dec.{eqb, ltb, leb}
+use lib.Dec.{eqb, ltb}
 use Rattle.lists.specs.Map.{upd}
 use Rattle.lists.specs.Lists.{keep}
 use Rattle.protocol.specs.declared.Logged.{Logged}

@@ -83,7 +83,7 @@ history-after ls = history-from start no-history ls
 -- a quiet moment: no FF has been printed and no machine is down or catching up
 pub record Quiet (s : State) : Type 0 where
   pub not-lost : s .lost ≡ false
-  pub normal : (p : ℕ) → is-normal s p ≡ true
+  pub normal : (p : ℕ) → 1 ≤ p → p ≤ s .job .machines → is-normal s p ≡ true
 
 -- "a log has a message if an entry equals it, with a TN or without"
 pub record Has (l : List Logged) (m : Message) : Type 0 where
