@@ -1,0 +1,69 @@
+use mathlib.Core.Path.{_≡_, sym, _∙_}
+use Prim.Native.Nat.{_≤_, _-_}
+use native.Mathlib.Omega.{arith}
+use borrow.Author.Needs.{needs}
+use borrow.Author.Tests.{not-true, not-false}
+use lib.ListN.{length, drop}
+use Rattle.lists.specs.Lists.{allb}
+use Rattle.frames.specs.Decode.{is-digit, is-hexadecimal}
+use Rattle.frames.specs.ReadLaws.{hexadecimal-odd, hexadecimal-even, all-hit, all-miss, all-end}
+use Rattle.frames.proofs.is_hexadecimal.Statement.{statement}
+use Rattle.frames.proofs.is_hexadecimal.Tie as tie
+
+abbrev Inv-loop : tie.InvT-loop
+Inv-loop line i₀ i = (i ≤ length line) × (is-hexadecimal line ≡ allb is-digit (drop i line))
+
+abbrev μ-loop : tie.MeasureT-loop
+μ-loop line i₀ i = length line - i
+
+returns : tie.Need-returns Inv-loop μ-loop
+returns c = sym (hexadecimal-odd _ (c .if1 .taken))
+
+loop-holds : tie.Need-loop-holds Inv-loop μ-loop
+loop-holds c = (search needs, hexadecimal-even _ (c .if1 .left))
+
+shared-slice-read-is-digit : tie.Need-shared-slice-read-is-digit Inv-loop μ-loop
+shared-slice-read-is-digit c = search needs
+
+is-digit-requires : tie.Need-is-digit-requires Inv-loop μ-loop
+is-digit-requires c κs = search needs
+
+returns-2 : tie.Need-returns-2 Inv-loop μ-loop
+returns-2 c = 
+    let s = c .before .before .before .before .before .before .before in
+    let l = c .before .before .before .before .loop in
+    all-miss is-digit (s .args .line .now) (l .i) _ (l .inv .1) (omega arith) (sym (c .before .is-digit .ensures) ∙ not-true _ (c .if2 .taken))
+
+add-i : tie.Need-add-i Inv-loop μ-loop
+add-i c = search needs
+
+loop-less : tie.Need-loop-less Inv-loop μ-loop
+loop-less c = search needs
+
+loop-again : tie.Need-loop-again Inv-loop μ-loop
+loop-again c =
+    let s = c .before .before .before .before .before .before .before in
+    let l = c .before .before .before .before .loop in
+    (search needs, all-hit is-digit (s .args .line .now) (l .i) _ (l .inv .1) (omega arith) (sym (c .before .is-digit .ensures) ∙ not-false _ (c .if2 .left)))
+
+returns-3 : tie.Need-returns-3 Inv-loop μ-loop
+returns-3 c =
+    let s = c .before .before .before .before in
+    let l = c .before .loop in
+    all-end is-digit (s .args .line .now) (l .i) _ (l .inv .1) (omega arith)
+
+pub is-hexadecimal-spec : {M : Type 1} → statement M
+is-hexadecimal-spec =
+    tie.close
+    (tie.spec
+    Inv-loop
+    μ-loop
+    returns
+    loop-holds
+    shared-slice-read-is-digit
+    is-digit-requires
+    returns-2
+    add-i
+    loop-less
+    loop-again
+    returns-3)

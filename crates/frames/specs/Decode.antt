@@ -1,0 +1,32 @@
+-- The bytes of a line, read digit by digit: a character that is no digit counts as 0, and a last odd one is left out.
+use mathlib.Core.Bool.{Bool, true, false, _&&_}
+use mathlib.Core.List.{List, [], _∷_}
+use mathlib.Core.Option.{Option, some, none}
+use Prim.Native.Nat.{ℕ, _+_, _*_, _%_}
+use lib.Dec.{eqb}
+use lib.ListN.{length}
+use Rattle.lists.specs.Lists.{allb}
+use Rattle.protocol.specs.Frames.{Line, digit}
+
+unfoldable pub or-zero : Option ℕ → ℕ
+or-zero none = 0
+or-zero (some a) = a
+
+unfoldable pub is-some : Option ℕ → Bool
+is-some none = false
+is-some (some a) = true
+
+unfoldable pub digit-value : ℕ → ℕ
+digit-value x = or-zero (digit x)
+
+unfoldable pub is-digit : ℕ → Bool
+is-digit x = is-some (digit x)
+
+unfoldable pub decoded : Line → List ℕ
+decoded [] = []
+decoded (x ∷ []) = []
+decoded (x ∷ y ∷ l) = (digit-value x * 16 + digit-value y) ∷ decoded l
+
+-- "Hexadecimal digits only, in pairs"
+unfoldable pub is-hexadecimal : Line → Bool
+is-hexadecimal l = eqb (length l % 2) 0 && allb is-digit l

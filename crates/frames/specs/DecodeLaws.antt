@@ -1,0 +1,59 @@
+-- The bytes of a line against those of the rule book: the same wherever the line is hexadecimal, and there are none elsewhere.
+use mathlib.Core.Bool.{Bool, true, false, cond, _&&_}
+use mathlib.Core.List.{List, [], _∷_}
+use mathlib.Core.Option.{Option, some, none}
+use mathlib.Core.Path.{_≡_, refl, sym, _∙_}
+use Prim.Native.Nat.{ℕ, zero, suc, _+_, _*_, _<_, _≤_, _/_, _%_}
+use native.Mathlib.Omega.{arith}
+use lib.Dec.{eqb}
+use lib.ListN.{length, getD, List·getD-eq-default}
+use Rattle.lists.specs.Lists.{allb}
+use Rattle.protocol.specs.Frames.{Line, digit, pair, bytes}
+use Rattle.frames.specs.Decode.{or-zero, is-some, digit-value, is-digit, decoded, is-hexadecimal}
+
+pub length-decoded : (l : Line) → length (decoded l) ≡ length l / 2
+unfolding decoded
+length-decoded [] = refl
+length-decoded (x ∷ []) = refl
+length-decoded (x ∷ y ∷ l) = let h = length-decoded l in omega arith
+
+pub getD-decoded : (l : Line) (i : ℕ) → i < length l / 2 → getD (decoded l) i 0 ≡ digit-value (getD l (2 * i) 0) * 16 + digit-value (getD l (2 * i + 1) 0)
+unfolding decoded
+getD-decoded [] i h = absurd (omega arith)
+getD-decoded (x ∷ []) i h = absurd (omega arith)
+getD-decoded (x ∷ y ∷ l) zero h = refl
+getD-decoded (x ∷ y ∷ l) (suc i) h =
+    let e : 2 * suc i ≡ suc (suc (2 * i)) = omega arith in
+    let f : suc (suc (2 * i)) + 1 ≡ suc (suc (2 * i + 1)) = omega arith in
+    getD-decoded l i (omega arith) ∙ rw (e, f)
+
+pub decoded-end : (l : Line) (i : ℕ) → length l / 2 ≤ i → getD (decoded l) i 0 ≡ 0
+decoded-end l i h = List·getD-eq-default (decoded l) 0 {n = i} (omega (arith, length-decoded l))
+
+-- one pair more
+bytes-pair : (a b : Option ℕ) (e h : Bool) (d : List ℕ)
+    → pair a b (cond (e && h) (some d) none) ≡ cond (e && (is-some a && (is-some b && h))) (some ((or-zero a * 16 + or-zero b) ∷ d)) none
+unfolding pair is-some or-zero
+bytes-pair none b true h d = refl
+bytes-pair none b false h d = refl
+bytes-pair (some a) none true h d = refl
+bytes-pair (some a) none false h d = refl
+bytes-pair (some a) (some b) true true d = refl
+bytes-pair (some a) (some b) true false d = refl
+bytes-pair (some a) (some b) false h d = refl
+
+pub bytes-decoded : (l : Line) → bytes l ≡ cond (is-hexadecimal l) (some (decoded l)) none
+unfolding bytes is-hexadecimal allb decoded digit-value is-digit
+bytes-decoded [] = refl
+bytes-decoded (x ∷ []) = refl
+bytes-decoded (x ∷ y ∷ l) =
+    let e : suc (suc (length l)) % 2 ≡ length l % 2 = omega arith in
+    rw (bytes-decoded l, e) (bytes-pair (digit x) (digit y) (eqb (length l % 2) 0) (allb is-digit l) (decoded l))
+
+-- where the rule book has bytes, these are they
+pub decoded-bytes : (l : Line) {b : List ℕ} → bytes l ≡ some b → decoded l ≡ b
+decoded-bytes l {b} e = go (is-hexadecimal l) (sym (bytes-decoded l) ∙ e)
+  where
+    go : (h : Bool) → cond h (some (decoded l)) none ≡ some b → decoded l ≡ b
+    go true q = cc
+    go false q = absurd (let z : _≡_ {A = ℕ} 0 1 = cc in omega arith)

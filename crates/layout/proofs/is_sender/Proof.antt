@@ -1,0 +1,12 @@
+use borrow.Author.Needs.{needs}
+use Rattle.layout.proofs.is_sender.Statement.{statement}
+use Rattle.layout.proofs.is_sender.Tie as tie
+
+chares-requires : tie.Need-chares-requires
+chares-requires c κs = search needs
+
+returns : tie.Need-returns
+returns c = rw (c .chares .ensures)
+
+pub is-sender-spec : {M : Type 1} → statement M
+is-sender-spec = tie.close (tie.spec chares-requires returns)

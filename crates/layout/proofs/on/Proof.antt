@@ -1,0 +1,14 @@
+use borrow.Author.Needs.{needs}
+use Rattle.protocol.specs.Parts.{on}
+use Rattle.layout.proofs.on.Statement.{statement}
+use Rattle.layout.proofs.on.Tie as tie
+
+home-requires : tie.Need-home-requires
+home-requires c κs = search needs
+
+returns : tie.Need-returns
+unfolding on
+returns c = rw (c .home .ensures)
+
+pub on-spec : {M : Type 1} → statement M
+on-spec = tie.close (tie.spec home-requires returns)

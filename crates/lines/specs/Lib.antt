@@ -1,0 +1,1 @@
+-- What the contracts of lines say is all in the rule book's Lines.

@@ -1,0 +1,65 @@
+// The line that an answer prints, with its newline.
+ghost use mathlib.Core.Path.{_≡_};
+ghost use mathlib.Core.List.{[], _∷_, _++_};
+ghost use Prim.Native.Nat.{_%_};
+ghost use lib.ListN.{take};
+ghost use Rattle.protocol.specs.Lines.{newline, printed-digit, line};
+use protocol::Answer;
+
+pub struct Printed {
+    pub len: u8,
+    pub bytes: [u8; 16],
+}
+
+// The last hexadecimal digit of a number.
+fn digit(n: u32) -> u8
+    ensures { λ r. ⌜ r ≡ printed-digit (n % 16) ⌝ }
+{
+    let d = (n % 16) as u8;
+    if d < 10 { 48 + d } else { 55 + d }
+}
+
+pub fn print(a: Answer) -> Printed
+    ensures { λ r. ⌜ take (r .len) (r .bytes) ≡ line a ++ (newline ∷ []) ⌝ }
+{
+    let mut b = [0u8; 16];
+    match a {
+        Answer::Accepted => {
+            b[0] = 48;
+            b[1] = 48;
+            b[2] = 10;
+            Printed { len: 3, bytes: b }
+        }
+        Answer::Lost => {
+            b[0] = 70;
+            b[1] = 70;
+            b[2] = 10;
+            Printed { len: 3, bytes: b }
+        }
+        Answer::Refused(n) => {
+            b[0] = 48 + n / 10 % 10;
+            b[1] = 48 + n % 10;
+            b[2] = 10;
+            Printed { len: 3, bytes: b }
+        }
+        Answer::Shown { height, state } => {
+            let h = height as u32;
+            b[0] = 48;
+            b[1] = 48;
+            b[2] = digit(h / 16 / 16 / 16);
+            b[3] = digit(h / 16 / 16);
+            b[4] = digit(h / 16);
+            b[5] = digit(h);
+            b[6] = digit(state / 16 / 16 / 16 / 16 / 16 / 16 / 16);
+            b[7] = digit(state / 16 / 16 / 16 / 16 / 16 / 16);
+            b[8] = digit(state / 16 / 16 / 16 / 16 / 16);
+            b[9] = digit(state / 16 / 16 / 16 / 16);
+            b[10] = digit(state / 16 / 16 / 16);
+            b[11] = digit(state / 16 / 16);
+            b[12] = digit(state / 16);
+            b[13] = digit(state);
+            b[14] = 10;
+            Printed { len: 15, bytes: b }
+        }
+    }
+}

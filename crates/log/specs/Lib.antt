@@ -1,0 +1,4 @@
+-- What the contracts of log say.
+pub mod Log
+pub mod LogLaws
+pub mod CleanUp

@@ -1,0 +1,2 @@
+-- What the contracts of notes say.
+pub mod View

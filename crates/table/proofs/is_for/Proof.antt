@@ -1,0 +1,16 @@
+-- `is_for` is the test of a sender and an SN.
+use borrow.Author.Tests.{eq-eqb, ne-eqb}
+use Rattle.protocol.specs.Tickets.{for-message}
+use Rattle.table.proofs.is_for.Statement.{statement}
+use Rattle.table.proofs.is_for.Tie as tie
+
+returns : tie.Need-returns
+unfolding for-message
+returns c = rw (eq-eqb _ _ (c .before .if1 .taken))
+
+returns-2 : tie.Need-returns-2
+unfolding for-message
+returns-2 c = rw (ne-eqb _ _ (c .if1 .left))
+
+pub is-for-spec : {M : Type 1} → statement M
+is-for-spec = tie.close (tie.spec returns returns-2)

@@ -1,0 +1,11 @@
+use mathlib.Core.Path.{refl}
+use Rattle.wire.specs.View.{packets}
+use Rattle.wire.proofs.empty.Statement.{statement}
+use Rattle.wire.proofs.empty.Tie as tie
+
+returns : tie.Need-returns
+unfolding packets
+returns c = refl
+
+pub empty-spec : {M : Type 1} → statement M
+empty-spec = tie.close (tie.spec returns)
