@@ -1,10 +1,10 @@
 -- Membership, and what a test does to a list: filter, any and all, find-first, remove-first, change-first; prefixes; sorting.
 use mathlib.Core.Path.{_≡_, refl, ap, sym, subst, subst⁻¹, _∙_}
-use mathlib.Core.Bool.{Bool, true, false, cond, not, _&&_, _||_}
+use mathlib.Core.Bool.{Bool, true, false, cond, _&&_, _||_}
 use mathlib.Core.Logic.{_⊎_, inl, inr}
 use mathlib.Core.List.{List, [], _∷_, _++_, map, append-assoc, append-nil, List·Memᴰ, List·Memᴰ·head as here, List·Memᴰ·tail as there, List·Memᴰ·not-nil, List·Memᴰ·cases-cons, Memᴰ·append-left, Memᴰ·append-right, List·Memᴰ·append-cases, Memᴰ·map, Memᴰ·of-map}
 use mathlib.Core.Option.{Option, some, none}
-use Prim.Native.Nat.{ℕ, suc, _+_, _-_, _≤_}
+use Prim.Native.Nat.{ℕ, suc, _≤_}
 use native.Mathlib.Omega.{arith}
 use lib.ListN.{length, length-append}
 use lib.Dec.{leb}
@@ -12,7 +12,6 @@ use Rattle.lists.specs.Tests.{either, true-not-false, and-l, and-r, or-c
 
 module _ {A : Type 0} where
   infix 20 _∈_
-
   abbrev pub _∈_ : A → List A → Type 0
   a ∈ l = List·Memᴰ a l
 
@@ -41,8 +40,8 @@ module _ {A : Type 0} where
   unfolding keep
   keep-mem p [] i = absurd (List·Memᴰ·not-nil i)
   keep-mem p {a} (x ∷ l) i = either (p x)
-    (λ e. elim (List·Memᴰ·cases-cons (rw e at i)) [ inl q ↦ (here q, ap p q ∙ e) | inr j ↦ let r = keep-mem p l j in (there (r .0), r .1) ])
-    (λ e. let r = keep-mem p l (rw e at i) in (there (r .0), r .1))
+      (λ e. elim (List·Memᴰ·cases-cons (rw e at i)) [ inl q ↦ (here q, ap p q ∙ e) | inr j ↦ let r = keep-mem p l j in (there (r .0), r .1) ])
+      (λ e. let r = keep-mem p l (rw e at i) in (there (r .0), r .1))
 
   pub mem-keep : (p : A → Bool) {a : A} {l : List A} → a ∈ l → p a ≡ true → a ∈ keep p l
   unfolding keep
@@ -112,15 +111,15 @@ module _ {A : Type 0} where
   unfolding find
   find-some p [] e = absurd (let z : _≡_ {A = ℕ} 0 1 = cc in omega arith)
   find-some p (x ∷ l) {a} e = either (p x)
-    (λ f. let q : a ≡ x = cc (rw f at e) in (here q, ap p q ∙ f))
-    (λ f. let r = find-some p l (rw f at e) in (there (r .0), r .1))
+      (λ f. let q : a ≡ x = cc (rw f at e) in (here q, ap p q ∙ f))
+      (λ f. let r = find-some p l (rw f at e) in (there (r .0), r .1))
 
   pub find-none : (p : A → Bool) (l : List A) → find p l ≡ none → All (λ x. p x ≡ false) l
   unfolding find
   find-none p [] e = all-nil _
   find-none p (x ∷ l) e = either (p x)
-    (λ f. absurd (let g = rw f at e in let z : _≡_ {A = ℕ} 0 1 = cc in omega arith))
-    (λ f. all-cons f (find-none p l (rw f at e)))
+      (λ f. absurd (let g = rw f at e in let z : _≡_ {A = ℕ} 0 1 = cc in omega arith))
+      (λ f. all-cons f (find-none p l (rw f at e)))
 
   -- the only one that passes is the first
   pub find-the : (p : A → Bool) (l : List A) {a : A} → a ∈ l → p a ≡ true → ((y : A) → y ∈ l → p y ≡ true → y ≡ a) → find p l ≡ some a
@@ -139,7 +138,7 @@ module _ {A : Type 0} where
   unfolding remove1
   remove1-mem p [] i = i
   remove1-mem p (x ∷ l) i = either (p x) (λ e. there (rw e at i))
-    (λ e. elim (List·Memᴰ·cases-cons (rw e at i)) [ inl q ↦ here q | inr j ↦ there (remove1-mem p l j) ])
+      (λ e. elim (List·Memᴰ·cases-cons (rw e at i)) [ inl q ↦ here q | inr j ↦ there (remove1-mem p l j) ])
 
   pub mem-remove1 : (p : A → Bool) {a : A} {l : List A} → a ∈ l → p a ≡ false → a ∈ remove1 p l
   unfolding remove1
@@ -155,10 +154,11 @@ module _ {A : Type 0} where
   unfolding change1
   change1-mem p f [] i = inl i
   change1-mem p f (x ∷ l) i = either (p x)
-    (λ e. elim (List·Memᴰ·cases-cons (rw e at i)) [ inl q ↦ inr (x, here refl, e, q) | inr j ↦ inl (there j) ])
-    (λ e. elim (List·Memᴰ·cases-cons (rw e at i)) [
-      inl q ↦ inl (here q)
-      | inr j ↦ elim (change1-mem p f l j) [ inl k ↦ inl (there k) | inr k ↦ inr (k .0, there (k .1), k .2, k .3) ] ])
+      (λ e. elim (List·Memᴰ·cases-cons (rw e at i)) [ inl q ↦ inr (x, here refl, e, q) | inr j ↦ inl (there j) ])
+      (λ e. elim (List·Memᴰ·cases-cons (rw e at i)) [
+        | inl q ↦ inl (here q)
+        | inr j ↦ elim (change1-mem p f l j) [ inl k ↦ inl (there k) | inr k ↦ inr (k .0, there (k .1), k .2, k .3) ]
+      ])
 
   -- what does not pass stays
   pub mem-change1 : (p : A → Bool) (f : A → A) {a : A} {l : List A} → a ∈ l → p a ≡ false → a ∈ change1 p f l
@@ -171,8 +171,8 @@ module _ {A : Type 0} where
   unfolding change1 find
   change1-found p f [] e = absurd (let z : _≡_ {A = ℕ} 0 1 = cc in omega arith)
   change1-found p f {a} (x ∷ l) e = either (p x)
-    (λ g. rw g (let q : a ≡ x = cc (rw g at e) in here (ap f q)))
-    (λ g. rw g (there (change1-found p f l (rw g at e))))
+      (λ g. rw g (let q : a ≡ x = cc (rw g at e) in here (ap f q)))
+      (λ g. rw g (there (change1-found p f l (rw g at e))))
 
   pub length-change1 : (p : A → Bool) (f : A → A) (l : List A) → length (change1 p f l) ≡ length l
   unfolding change1
@@ -209,10 +209,11 @@ module _ {A : Type 0} where
   unfolding insert
   insert-mem k [] i = List·Memᴰ·cases-cons i
   insert-mem k {b = b} (x ∷ l) i = either (leb (k b) (k x))
-    (λ e. List·Memᴰ·cases-cons (rw e at i))
-    (λ e. elim (List·Memᴰ·cases-cons (rw e at i)) [
-      inl q ↦ inr (here q)
-      | inr j ↦ elim (insert-mem k l j) [ inl q ↦ inl q | inr m ↦ inr (there m) ] ])
+      (λ e. List·Memᴰ·cases-cons (rw e at i))
+      (λ e. elim (List·Memᴰ·cases-cons (rw e at i)) [
+        | inl q ↦ inr (here q)
+        | inr j ↦ elim (insert-mem k l j) [ inl q ↦ inl q | inr m ↦ inr (there m) ]
+      ])
 
   pub mem-insert : (k : A → ℕ) {a b : A} (l : List A) → (a ≡ b) ⊎ (a ∈ l) → a ∈ insert k b l
   unfolding insert
@@ -220,8 +221,8 @@ module _ {A : Type 0} where
   mem-insert k [] (inr i) = absurd (List·Memᴰ·not-nil i)
   mem-insert k {b = b} (x ∷ l) (inl q) = either (leb (k b) (k x)) (λ e. rw e (here q)) (λ e. rw e (there (mem-insert k l (inl q))))
   mem-insert k {b = b} (x ∷ l) (inr i) = either (leb (k b) (k x))
-    (λ e. rw e (there i))
-    (λ e. rw e (elim (List·Memᴰ·cases-cons i) [ inl q ↦ here q | inr j ↦ there (mem-insert k l (inr j)) ]))
+      (λ e. rw e (there i))
+      (λ e. rw e (elim (List·Memᴰ·cases-cons i) [ inl q ↦ here q | inr j ↦ there (mem-insert k l (inr j)) ]))
 
   pub sort-mem : (k : A → ℕ) {a : A} (l : List A) → a ∈ sort k l → a ∈ l
   unfolding sort

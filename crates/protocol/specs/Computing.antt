@@ -1,7 +1,7 @@
 -- Opens the definitions for the proofs that compute with them: `unfolding opened`; and texts as bytes.
 use mathlib.Core.List.{List, [], _∷_}
 use Prim.Native.Nat.{ℕ}
-use Prim.Native.Char.{Char, code}
+use Prim.Native.Char.{code}
 use Prim.Native.String as string
 use Rattle.lists.specs.Map.{upd}
 use Rattle.lists.specs.Lists as lists

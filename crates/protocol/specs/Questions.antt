@@ -1,18 +1,17 @@
 -- "Questions put to each frame, in this order": 2 to 11 as a list of tests for each kind of frame (1 is `frame`). `true` stands
 -- where a question is not put.
-use mathlib.Core.Bool.{Bool, true, false, cond, not, _&&_, _||_}
-use mathlib.Core.List.{List, [], _∷_, _++_}
+use mathlib.Core.Bool.{Bool, true, false, not, _&&_, _||_}
+use mathlib.Core.List.{List, [], _∷_}
 use mathlib.Core.Option.{Option, some, none}
-use Prim.Native.Nat.{ℕ, _+_, _-_}
-use lib.Dec.{eqb, ltb, leb}
+use Prim.Native.Nat.{ℕ, _+_}
+use lib.Dec.{ltb, leb}
 use lib.ListN.{length}
 use Rattle.lists.specs.Lists.{allb, find, keep}
-use Rattle.lists.specs.Map.{upd}
 use Rattle.protocol.specs.declared.Entry.{Entry}
 use Rattle.protocol.specs.declared.Packet.{Packet}
 use Rattle.protocol.specs.declared.Content.{Content}
 use Rattle.protocol.specs.declared.Content.the-variants.{Ask as ASK, GrantOld as GRANT-old, GrantReceived as GRANT-received, GrantNew as GRANT-new, Data as DATA, Note as NOTE, Ack as ACK}
-use Rattle.protocol.specs.Parts.{Job, Memory, State, with-memory, log-room, table-room, note-room, wire-room, most, every-chare, up, on, is-down}
+use Rattle.protocol.specs.Parts.{Memory, State, log-room, table-room, note-room, wire-room, most, every-chare, up, on, is-down}
 use Rattle.protocol.specs.Window.{admitted, risen-mark}
 use Rattle.protocol.specs.Tickets.{entry, new-tn}
 use Rattle.protocol.specs.Sending.{is-local, send}

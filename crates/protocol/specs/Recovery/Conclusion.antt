@@ -1,52 +1,40 @@
 -- From the invariant to demand 3: at a quiet moment the state and the history are those of the run carried along.
-use mathlib.Core.Path.{_≡_, refl, sym, ap, _∙_, subst}
-use mathlib.Core.Bool.{true, not, _||_}
-use mathlib.Core.Logic.{_⊎_, inl, inr, _≢_}
+use mathlib.Core.Path.{_≡_, sym, ap, _∙_, subst}
+use mathlib.Core.Logic.{inl, inr, _≢_}
 use mathlib.Core.Option.{some}
 use Prim.Native.Nat.{ℕ, _≤_}
 use lib.ListN.{length, take}
 use lib.Seq.{take-length}
-use Rattle.lists.specs.Tests.{eq?, true-not-false}
+use Rattle.lists.specs.Tests.{eq?}
 use Rattle.lists.specs.Lists.{_∈_}
 use Rattle.protocol.specs.declared.Message.{Message}
-use Rattle.protocol.specs.declared.Status.{Status}
-use Rattle.protocol.specs.declared.Status.the-variants.{Up, Down, CatchingUp}
-use Rattle.protocol.specs.Parts.{Memory, State, is-down, is-catching-up}
+use Rattle.protocol.specs.declared.Status.the-variants.{Up, Down}
+use Rattle.protocol.specs.Parts.{Memory, State}
 use Rattle.protocol.specs.Crash.{is-normal}
 use Rattle.protocol.specs.CrashFree.{Run}
 use Rattle.protocol.specs.Demand3.{History, Quiet, Has, Agrees}
-use Rattle.protocol.specs.Recovery.Fold.{folded}
-use Rattle.protocol.specs.Recovery.Run.{RunOk, unworked-sent, unworked-new}
-use Rattle.protocol.specs.Recovery.RunLaws.{run-ok}
-use Rattle.protocol.specs.Recovery.World.{nothing-pending, Stable}
-use Rattle.protocol.specs.Recovery.Invariant.{Chare, Sender, InvP}
-use Rattle.protocol.specs.Recovery.Linked.{world}
-use Rattle.protocol.specs.Recovery.Places.{place-in}
-use Rattle.protocol.specs.Recovery.Good.{Carried}
-use Rattle.protocol.specs.Recovery.Counts.{counted-nothing, chare-not-desk, image-now, full-counts, sent-logged}
-use Rattle.protocol.specs.Recovery.SettleStep.{down-not-up, catching-up-not-up}
-
-pub neither-up : (v : Status) → not (is-down v || is-catching-up v) ≡ true → v ≡ Up
-unfolding is-down is-catching-up
-neither-up Up e = refl
-neither-up Down e = true-not-false e refl
-neither-up CatchingUp e = true-not-false e refl
+use Rattle.protocol.specs.Recovery.Run.Fold.{folded}
+use Rattle.protocol.specs.Recovery.Run.Facts.{RunOk, unworked-sent, unworked-new}
+use Rattle.protocol.specs.Recovery.Run.Laws.{run-ok}
+use Rattle.protocol.specs.Recovery.Invariant.World.{nothing-pending, Stable}
+use Rattle.protocol.specs.Recovery.Invariant.Clauses.{Chare, Sender, InvP}
+use Rattle.protocol.specs.Recovery.Invariant.Linked.{world}
+use Rattle.protocol.specs.Recovery.Laws.Places.{place-in}
+use Rattle.protocol.specs.Recovery.Invariant.Good.{Carried}
+use Rattle.protocol.specs.Recovery.Invariant.Counts.{counted-nothing, chare-not-desk, image-now, full-counts, sent-logged}
+use Rattle.protocol.specs.Recovery.Laws.Status.{down-not-up, up?, neither-up}
 
 -- no number but a machine's is ever down or catching up
 pub record Ranged (s : State) : Type 0 where
   pub known : (p : ℕ) → s .status p ≢ Up → (1 ≤ p) × (p ≤ s .job .machines)
   pub six : s .job .machines ≤ 6
 
-pub up? : (t : Status) → (t ≡ Up) ⊎ (t ≢ Up)
-up? Up = inl refl
-up? Down = inr down-not-up
-up? CatchingUp = inr catching-up-not-up
-
 pub quiet-up : {s : State} → Ranged s → Quiet s → (p : ℕ) → s .status p ≡ Up
 unfolding is-normal
 quiet-up {s} ranged quiet p = elim (up? (s .status p)) [
-  inl e ↦ e
-  | inr d ↦ let (a, b) = ranged .known p d in neither-up (s .status p) (quiet .normal p a b) ]
+  | inl e ↦ e
+  | inr d ↦ let (a, b) = ranged .known p d in neither-up (s .status p) (quiet .normal p a b)
+]
 
 pub carried-ok : {s : State} {h : History} (c : Carried s h) → RunOk (s .job) (c .run)
 carried-ok {s} {h} c = run-ok (s .job) (h .injections) (c .works) (c .run) (c .chares) (c .is-run)

@@ -1,0 +1,22 @@
+-- Small changes of the world, each keeping the invariant.
+pub mod Settle
+pub mod Checkpoint
+pub mod Wire
+pub mod Retable
+pub mod Table
+pub mod Relog
+pub mod Log
+pub mod Notes
+pub mod Grow
+pub mod Inject
+pub mod WorkRun
+pub mod WorkTable
+pub mod WorkImage
+pub mod Work
+pub mod CrashTables
+pub mod CrashParts
+pub mod CrashClauses
+pub mod CrashWire
+pub mod Retables
+pub mod RestartTables
+pub mod RestartWire
