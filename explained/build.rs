@@ -1,0 +1,29 @@
+//! Links the proved engine, a static library.
+
+use std::env;
+use std::path::PathBuf;
+
+fn main() {
+    println!("cargo:rerun-if-changed=build.rs");
+    println!("cargo:rerun-if-env-changed=SATUPHIR_LIB");
+    if env::var_os("CARGO_FEATURE_WITHOUT_ENGINE").is_some() {
+        return;
+    }
+    let folder = match env::var_os("SATUPHIR_LIB") {
+        Some(folder) => PathBuf::from(folder),
+        None => {
+            let here = env::var_os("CARGO_MANIFEST_DIR").expect("cargo names the package's folder");
+            PathBuf::from(here).join("../target/staticlib")
+        }
+    };
+    let library = folder.join("libsatuphir.a");
+    if !library.is_file() {
+        println!(
+            "cargo:warning=no library {}: name its folder in SATUPHIR_LIB, or build with --features without-engine",
+            library.display()
+        );
+    }
+    println!("cargo:rerun-if-changed={}", library.display());
+    println!("cargo:rustc-link-search=native={}", folder.display());
+    println!("cargo:rustc-link-lib=static=satuphir");
+}

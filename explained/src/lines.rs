@@ -1,0 +1,90 @@
+//! Cutting the input into lines, and showing text.
+
+/// The lines of an input. The last one needs no newline, and is none if it is empty.
+pub fn cut(input: &[u8]) -> Vec<&[u8]> {
+    let mut lines: Vec<&[u8]> = input.split(|&b| b == b'\n').collect();
+    if lines.last().is_some_and(|line| line.is_empty()) {
+        lines.pop();
+    }
+    lines
+}
+
+/// The most characters of a line that are shown.
+const SHOWN: usize = 100;
+
+/// A line as given, on one line of print: bytes that do not print are written out.
+pub fn shown(line: &[u8]) -> String {
+    if line.is_empty() {
+        return "(an empty line)".to_string();
+    }
+    let mut text = escaped(&line[..line.len().min(SHOWN)]);
+    if line.len() > SHOWN {
+        text.push_str(&format!("... ({} characters)", line.len()));
+    }
+    text
+}
+
+/// Printing characters as they are, all other bytes as `\r`, `\xFF` and so on.
+pub fn escaped(bytes: &[u8]) -> String {
+    let mut text = String::new();
+    for &byte in bytes {
+        match byte {
+            b'\r' => text.push_str("\\r"),
+            b'\t' => text.push_str("\\t"),
+            b' '..=b'~' => text.push(byte as char),
+            _ => text.push_str(&format!("\\x{byte:02X}")),
+        }
+    }
+    text
+}
+
+/// Text broken between words at `width` characters, every line indented.
+pub fn wrapped(text: &str, indent: usize, width: usize) -> String {
+    let mut out = String::new();
+    let mut column = 0;
+    for word in text.split(' ') {
+        let len = word.chars().count();
+        if column > 0 && column + 1 + len > width {
+            out.push('\n');
+            column = 0;
+        }
+        if column == 0 {
+            out.push_str(&" ".repeat(indent));
+            column = indent;
+        } else {
+            out.push(' ');
+            column += 1;
+        }
+        out.push_str(word);
+        column += len;
+    }
+    out.push('\n');
+    out
+}
+
+#[cfg(test)]
+mod tests {
+    use super::*;
+
+    #[test]
+    fn cut_as_the_reader_does() {
+        assert!(cut(b"").is_empty());
+        assert_eq!(cut(b"\n"), [b""]);
+        assert_eq!(cut(b"a\nb"), [b"a", b"b"]);
+        assert_eq!(cut(b"a\n\nb\n"), [&b"a"[..], b"", b"b"]);
+    }
+
+    #[test]
+    fn shown_on_one_line() {
+        assert_eq!(shown(b""), "(an empty line)");
+        assert_eq!(shown(b"1201\r"), "1201\\r");
+        assert_eq!(shown(b"\xFF0"), "\\xFF0");
+        assert!(shown(&[b'0'; 300]).ends_with("0... (300 characters)"));
+    }
+
+    #[test]
+    fn wrapped_between_words() {
+        assert_eq!(wrapped("one two three", 2, 9), "  one two\n  three\n");
+        assert_eq!(wrapped("longer than the width", 0, 3), "longer\nthan\nthe\nwidth\n");
+    }
+}

@@ -1,0 +1,107 @@
+//! Plays a list with the second implementation and compares each line with the engine's.
+
+use crate::lines::{cut, escaped, shown};
+use reference::answer::Answer;
+use reference::frame::{parse, Frame};
+use reference::job::Job;
+use reference::state::State;
+use std::fmt;
+
+/// One frame, with the state before and after it.
+pub struct Step<'a> {
+    /// Counted from 1.
+    pub number: usize,
+    /// The line as given, without its newline.
+    pub given: &'a [u8],
+    /// None if the line is no frame.
+    pub frame: Option<Frame>,
+    pub answer: Answer,
+    /// The engine's line, without its newline.
+    pub line: &'a str,
+    pub before: &'a State,
+    pub after: &'a State,
+    /// The frame that lost the run, if an earlier one did.
+    pub lost_at: Option<usize>,
+}
+
+impl Step<'_> {
+    /// The job as this frame leaves it.
+    pub fn job(&self) -> Option<&Job> {
+        self.after.job.as_ref()
+    }
+}
+
+/// The engine and the second implementation do not give the same line.
+#[derive(Debug, PartialEq, Eq)]
+pub struct Difference {
+    pub number: usize,
+    pub frame: String,
+    pub engine: String,
+    pub second: String,
+}
+
+impl fmt::Display for Difference {
+    fn fmt(&self, f: &mut fmt::Formatter<'_>) -> fmt::Result {
+        let rule = "!".repeat(72);
+        writeln!(f, "{rule}")?;
+        writeln!(f, "!!! THE LINES DIFFER AT FRAME {}", self.number)?;
+        writeln!(f, "!!! frame:                 {}", self.frame)?;
+        writeln!(f, "!!! proved engine:         {}", self.engine)?;
+        writeln!(f, "!!! second implementation: {}", self.second)?;
+        writeln!(f, "!!! One of them is wrong. Nothing after this frame is explained.")?;
+        writeln!(f, "{rule}")
+    }
+}
+
+/// Shows each step to `see`, up to the first line that differs from the engine's.
+pub fn play(input: &[u8], engine: &[u8], mut see: impl FnMut(&Step)) -> Result<(), Difference> {
+    let mut engine_lines = engine.split_inclusive(|&b| b == b'\n');
+    let mut after = State::new();
+    let mut lost_at = None;
+    let mut own = Vec::new();
+    let mut number = 0;
+    for given in cut(input) {
+        number += 1;
+        let before = after.clone();
+        let answer = after.line(given);
+        own.clear();
+        answer.print(&mut own);
+        let theirs = engine_lines.next();
+        if theirs != Some(&own[..]) {
+            return Err(difference(number, shown(given), theirs, Some(&own)));
+        }
+        see(&Step {
+            number,
+            given,
+            frame: parse(given),
+            answer,
+            line: std::str::from_utf8(&own).unwrap_or_default().trim_end(),
+            before: &before,
+            after: &after,
+            lost_at,
+        });
+        if answer == Answer::Lost {
+            lost_at = Some(number);
+        }
+    }
+    match engine_lines.next() {
+        None => Ok(()),
+        more => Err(difference(number + 1, "(the list is at its end)".to_string(), more, None)),
+    }
+}
+
+fn difference(number: usize, frame: String, engine: Option<&[u8]>, second: Option<&[u8]>) -> Difference {
+    let text = |line: Option<&[u8]>| match line {
+        None => "(no line)".to_string(),
+        Some(line) => match line.strip_suffix(b"\n") {
+            Some(line) => escaped(line),
+            None => format!("{} (without a newline)", escaped(line)),
+        },
+    };
+    Difference {
+        number,
+        frame,
+        engine: text(engine),
+        second: text(second),
+    }
+}

@@ -1,0 +1,43 @@
+//! The whole output: the text of a list, its picture, and the first difference if there is one.
+
+use crate::lines::{shown, wrapped};
+use crate::picture::{draw, Recorder};
+use crate::play::{play, Difference, Step};
+use crate::words;
+
+/// What the tool makes of a list.
+pub struct Report {
+    pub text: String,
+    pub picture: String,
+    pub difference: Option<Difference>,
+}
+
+const INDENT: usize = 6;
+const WIDTH: usize = 100;
+
+/// Explains a list, given the engine's output for it. A difference ends the text, loudly.
+pub fn report(title: &str, input: &[u8], engine: &[u8]) -> Report {
+    let mut text = String::new();
+    let mut recorder = Recorder::new();
+    let result = play(input, engine, |step| {
+        put_step(&mut text, step);
+        recorder.see(step);
+    });
+    let difference = result.err();
+    if let Some(difference) = &difference {
+        text.push_str(&difference.to_string());
+    }
+    Report {
+        text,
+        picture: draw(title, &recorder.finish()),
+        difference,
+    }
+}
+
+fn put_step(text: &mut String, step: &Step) {
+    let head = format!("{:>4}  {}  ->  {}\n", step.number, shown(step.given), step.line);
+    text.push_str(&head);
+    for line in words::words(step) {
+        text.push_str(&wrapped(&line, INDENT, WIDTH));
+    }
+}

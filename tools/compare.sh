@@ -1,0 +1,44 @@
+#!/usr/bin/env bash
+# compare.sh [FRAMES] [SEED]: plays random lists with the proved program `sitting` and with the second implementation and compares
+# every byte; then a long input, one very long line and random bytes. Prints how many frames were compared.
+set -euo pipefail
+root=$(cd "$(dirname "$0")/.." && pwd)
+frames=${1:-20000000}
+seed=${2:-1}
+proved=$root/target/bin/sitting
+[ -x "$proved" ] || (cd "$root" && rt check sitting >/dev/null)
+cargo build --release --offline --quiet --manifest-path "$root/reference/Cargo.toml"
+second=$root/reference/target/release/sitting
+lists=$root/reference/target/release/lists
+work=$(mktemp -d); trap 'rm -rf "$work"' EXIT
+compared=0
+same() { # INPUT
+  "$proved" <"$1" >"$work/proved"
+  "$second" <"$1" >"$work/second"
+  if ! cmp -s "$work/proved" "$work/second"; then
+    cp "$1" "${TMPDIR:-/tmp}/differs.in"
+    echo "DIFFERENT on $1, kept as ${TMPDIR:-/tmp}/differs.in"; cmp "$work/proved" "$work/second" || true
+    exit 1
+  fi
+  compared=$((compared + $(wc -l <"$work/second")))
+}
+# short and long lists, of wide and narrow jobs, with garbled lines among the frames
+lengths=(60 300 1000 5000 20000)
+round=0
+while [ "$compared" -lt "$frames" ]; do
+  length=${lengths[$((round % ${#lengths[@]}))]}
+  mkdir "$work/lists"
+  "$lists" "$work/lists" "$seed" 50 "$length" >/dev/null
+  for f in "$work"/lists/*; do same "$f"; done
+  rm -rf "$work/lists"
+  seed=$((seed + 50)); round=$((round + 1))
+  if [ $((round % 20)) -eq 0 ]; then echo "$compared frames compared"; fi
+done
+echo "$compared frames of random lists: the same bytes"
+# 100 MB of frames, one line of 10 MB, random bytes
+"$lists" "$seed" 1000000 >"$work/long"
+while [ "$(wc -c <"$work/long")" -lt 100000000 ]; do cat "$work/long" "$work/long" >"$work/longer"; mv "$work/longer" "$work/long"; done
+same "$work/long"; echo "an input of $(wc -c <"$work/long") bytes: the same bytes"
+head -c 10000000 /dev/zero | tr '\0' '1' >"$work/line"; same "$work/line"; echo "one line of 10,000,000 digits: the same bytes"
+head -c 20000000 /dev/urandom >"$work/random"; same "$work/random"; echo "20,000,000 random bytes: the same bytes"
+echo "$compared frames compared in all"
