@@ -35,7 +35,7 @@ is-sender s c = leb c (s .job .chares)
 unfoldable pub wire-fits : State → Bool
 wire-fits s = leb (length (s .wire)) wire-room
 
--- a message from a to b needs a new ticket in the same step
+-- the SN that a message from a to b would take
 unfoldable pub sn-to-send : State → ℕ → ℕ → ℕ
 sn-to-send s a b = s .live a .sn b + 1
 
@@ -43,19 +43,23 @@ unfoldable pub no-entry : Option Entry → Bool
 no-entry none = true
 no-entry (some e) = false
 
+-- a message from a to b would take a new ticket in the same step
 unfoldable pub takes-ticket : State → ℕ → ℕ → Bool
 takes-ticket s a b = is-local (s .job) a b && no-entry (entry (s .live b .table) a (sn-to-send s a b))
 
--- 7 to 10 for one send
+-- 7 to 10 for one send: "Does every number stay at 60,000 or below?"
 unfoldable pub numbers-fit : State → ℕ → ℕ → Bool
 numbers-fit s a b = leb (sn-to-send s a b) most && (not (takes-ticket s a b) || leb (new-tn (s .live b)) most)
 
+-- "New ticket: SN at most mark + 64?"
 unfoldable pub window-admits : State → ℕ → ℕ → Bool
 window-admits s a b = not (takes-ticket s a b) || admitted (s .live b .mark a) (sn-to-send s a b)
 
+-- "Space in the sender's log?"
 unfoldable pub log-has-room : State → ℕ → ℕ → Bool
 log-has-room s a b = ltb (length (s .live a .log)) log-room
 
+-- "Space in the table or note list?"
 unfoldable pub table-has-room : State → ℕ → ℕ → Bool
 table-has-room s a b = not (takes-ticket s a b) || ltb (length (s .live b .table)) table-room
 
