@@ -19,7 +19,8 @@ fn main() {
     let library = folder.join("libsatuphir.a");
     if !library.is_file() {
         println!(
-            "cargo:warning=no library {}: name its folder in SATUPHIR_LIB, or build with --features without-engine",
+            "cargo:warning=no library {}: name its folder in SATUPHIR_LIB, \
+                    or build with --features without-engine",
             library.display()
         );
     }

@@ -37,9 +37,7 @@ mod linked {
 #[cfg(not(feature = "without-engine"))]
 fn write_transcript(input: &[u8], out: &mut [u8]) -> usize {
     // Sound: both places are given with their own lengths, and the engine keeps neither.
-    unsafe {
-        linked::satuphir_transcript(input.as_ptr(), input.len(), out.as_mut_ptr(), out.len())
-    }
+    unsafe { linked::satuphir_transcript(input.as_ptr(), input.len(), out.as_mut_ptr(), out.len()) }
 }
 
 #[cfg(feature = "without-engine")]

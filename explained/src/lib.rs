@@ -8,6 +8,7 @@ pub mod report;
 
 // What a frame did, from the state before and after it.
 pub mod names;
+pub mod outcome;
 pub mod traffic;
 pub mod words;
 

@@ -15,7 +15,7 @@ const SHOWN: usize = 100;
 /// A line as given, on one line of print: bytes that do not print are written out.
 pub fn shown(line: &[u8]) -> String {
     if line.is_empty() {
-        return "(an empty line)".to_string();
+        return "(empty line)".to_string();
     }
     let mut text = escaped(&line[..line.len().min(SHOWN)]);
     if line.len() > SHOWN {
@@ -42,7 +42,7 @@ pub fn escaped(bytes: &[u8]) -> String {
 pub fn wrapped(text: &str, indent: usize, width: usize) -> String {
     let mut out = String::new();
     let mut column = 0;
-    for word in text.split(' ') {
+    for word in words(text) {
         let len = word.chars().count();
         if column > 0 && column + 1 + len > width {
             out.push('\n');
@@ -55,11 +55,26 @@ pub fn wrapped(text: &str, indent: usize, width: usize) -> String {
             out.push(' ');
             column += 1;
         }
-        out.push_str(word);
+        out.push_str(&word);
         column += len;
     }
     out.push('\n');
     out
+}
+
+/// Words, but names such as "TN 4" and "0→1 #2" in one piece.
+fn words(text: &str) -> Vec<String> {
+    let mut words: Vec<String> = Vec::new();
+    for word in text.split(' ') {
+        match words.last_mut() {
+            Some(last) if last.ends_with("TN") || word.starts_with('#') => {
+                last.push(' ');
+                last.push_str(word);
+            }
+            _ => words.push(word.to_string()),
+        }
+    }
+    words
 }
 
 #[cfg(test)]
@@ -76,7 +91,7 @@ mod tests {
 
     #[test]
     fn shown_on_one_line() {
-        assert_eq!(shown(b""), "(an empty line)");
+        assert_eq!(shown(b""), "(empty line)");
         assert_eq!(shown(b"1201\r"), "1201\\r");
         assert_eq!(shown(b"\xFF0"), "\\xFF0");
         assert!(shown(&[b'0'; 300]).ends_with("0... (300 characters)"));
@@ -85,6 +100,10 @@ mod tests {
     #[test]
     fn wrapped_between_words() {
         assert_eq!(wrapped("one two three", 2, 9), "  one two\n  three\n");
-        assert_eq!(wrapped("longer than the width", 0, 3), "longer\nthan\nthe\nwidth\n");
+        assert_eq!(wrapped("of 0→1 #2 TN 4", 0, 6), "of\n0→1 #2\nTN 4\n");
+        assert_eq!(
+            wrapped("longer than the width", 0, 3),
+            "longer\nthan\nthe\nwidth\n"
+        );
     }
 }

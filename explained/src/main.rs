@@ -1,6 +1,7 @@
 //! `explain LIST`: what each frame of a list did, in words, and with `--picture` as a picture too.
 
 use explained::engine::{transcript, NOTICE};
+use explained::picture::draw;
 use explained::report::report;
 use std::fs;
 use std::io::{self, Read, Write};
@@ -32,24 +33,24 @@ fn run(list: &str, picture: Option<&str>) -> io::Result<ExitCode> {
     if let Some(notice) = NOTICE {
         eprintln!("explain: {notice}");
     }
-    let report = report(&title(list), &input, &transcript(&input));
+    let report = report(&input, &transcript(&input));
     if let Some(file) = picture {
-        fs::write(file, &report.picture)
+        fs::write(file, draw(&title(list), &report.story))
             .map_err(|e| io::Error::new(e.kind(), format!("{file}: {e}")))?;
     }
     let mut out = io::stdout().lock();
-    match out.write_all(report.text.as_bytes()).and_then(|()| out.flush()) {
+    match out
+        .write_all(report.text.as_bytes())
+        .and_then(|()| out.flush())
+    {
         // A reader that has seen enough is no error.
         Err(e) if e.kind() == io::ErrorKind::BrokenPipe => {}
         result => result?,
     }
-    Ok(match report.difference {
-        None => ExitCode::SUCCESS,
-        Some(difference) => {
-            eprintln!("explain: THE LINES DIFFER AT FRAME {}", difference.number);
-            ExitCode::FAILURE
-        }
-    })
+    if let Some(difference) = &report.difference {
+        eprintln!("explain: THE LINES DIFFER AT FRAME {}", difference.number);
+    }
+    Ok(ExitCode::from(report.status()))
 }
 
 fn main() -> ExitCode {

@@ -48,7 +48,10 @@ impl fmt::Display for Difference {
         writeln!(f, "!!! frame:                 {}", self.frame)?;
         writeln!(f, "!!! proved engine:         {}", self.engine)?;
         writeln!(f, "!!! second implementation: {}", self.second)?;
-        writeln!(f, "!!! One of them is wrong. Nothing after this frame is explained.")?;
+        writeln!(
+            f,
+            "!!! One of them is wrong. Nothing after this frame is explained."
+        )?;
         writeln!(f, "{rule}")
     }
 }
@@ -86,11 +89,21 @@ pub fn play(input: &[u8], engine: &[u8], mut see: impl FnMut(&Step)) -> Result<(
     }
     match engine_lines.next() {
         None => Ok(()),
-        more => Err(difference(number + 1, "(the list is at its end)".to_string(), more, None)),
+        more => Err(difference(
+            number + 1,
+            "(the list is at its end)".to_string(),
+            more,
+            None,
+        )),
     }
 }
 
-fn difference(number: usize, frame: String, engine: Option<&[u8]>, second: Option<&[u8]>) -> Difference {
+fn difference(
+    number: usize,
+    frame: String,
+    engine: Option<&[u8]>,
+    second: Option<&[u8]>,
+) -> Difference {
     let text = |line: Option<&[u8]>| match line {
         None => "(no line)".to_string(),
         Some(line) => match line.strip_suffix(b"\n") {

@@ -1,22 +1,29 @@
-//! The whole output: the text of a list, its picture, and the first difference if there is one.
+//! The whole output: the text of a list, its story, and the first difference if there is one.
 
 use crate::lines::{shown, wrapped};
-use crate::picture::{draw, Recorder};
+use crate::picture::{Recorder, Story};
 use crate::play::{play, Difference, Step};
 use crate::words;
 
-/// What the tool makes of a list.
+/// What the tool makes of a list: the text, and all that a picture shows.
 pub struct Report {
     pub text: String,
-    pub picture: String,
+    pub story: Story,
     pub difference: Option<Difference>,
+}
+
+impl Report {
+    /// The status with which the command ends.
+    pub fn status(&self) -> u8 {
+        u8::from(self.difference.is_some())
+    }
 }
 
 const INDENT: usize = 6;
 const WIDTH: usize = 100;
 
 /// Explains a list, given the engine's output for it. A difference ends the text, loudly.
-pub fn report(title: &str, input: &[u8], engine: &[u8]) -> Report {
+pub fn report(input: &[u8], engine: &[u8]) -> Report {
     let mut text = String::new();
     let mut recorder = Recorder::new();
     let result = play(input, engine, |step| {
@@ -29,13 +36,18 @@ pub fn report(title: &str, input: &[u8], engine: &[u8]) -> Report {
     }
     Report {
         text,
-        picture: draw(title, &recorder.finish()),
+        story: recorder.story,
         difference,
     }
 }
 
 fn put_step(text: &mut String, step: &Step) {
-    let head = format!("{:>4}  {}  ->  {}\n", step.number, shown(step.given), step.line);
+    let head = format!(
+        "{:>4}  {}  ->  {}\n",
+        step.number,
+        shown(step.given),
+        step.line
+    );
     text.push_str(&head);
     for line in words::words(step) {
         text.push_str(&wrapped(&line, INDENT, WIDTH));

@@ -1,15 +1,36 @@
 // From a line of hexadecimal digits to a frame. The digits are read where they stand: nothing is copied.
 ghost use mathlib.Core.Path.{_≡_};
-ghost use mathlib.Core.Bool.{Bool, true, false};
 ghost use Prim.Native.Nat.{_+_, _*_};
-ghost use lib.ListN.{getD, length};
+ghost use lib.ListN.{getD};
 ghost use Rattle.protocol.specs.Frames.{frame, is-whole, parts};
 ghost use Rattle.frames.specs.Decode.{digit-value, is-digit, decoded, is-hexadecimal};
 ghost use Rattle.frames.specs.Read.{read-as};
 
 // The least length of each kind of frame, by kind; 0 is no kind.
 const LEAST: [u8; 23] = [
-    0, 3, 0, 0, 0, 0, 0, 0, 0, 0, 0, 0, 0, 0, 0, 0, 5, 6, 2, 2, 2, 2, 2,
+    0,
+    3,
+    0,
+    0,
+    0,
+    0,
+    0,
+    0,
+    0,
+    0,
+    0,
+    0,
+    0,
+    0,
+    0,
+    0,
+    5,
+    6,
+    2,
+    2,
+    2,
+    2,
+    2,
 ];
 
 pub enum Frame {

@@ -64,4 +64,5 @@ in-range b e =
       machines = hm;
       chares = hc;
       buddies = λ p r. allb-true _ _ (and-r (m && c) bs e3) p (mem-keep _ (mem-machine p (r .low) (omega arith)) (le-leb _ _ (r .high)));
-      numbers = λ x r. allb-true _ _ (and-r (m && c && bs) cs e) x (mem-keep _ (mem-chare x (r .low) (omega arith)) (le-leb _ _ (r .high))) }
+      numbers = λ x r. allb-true _ _ (and-r (m && c && bs) cs e) x (mem-keep _ (mem-chare x (r .low) (omega arith)) (le-leb _ _ (r .high)));
+    }

@@ -37,7 +37,7 @@ module _ (b : List ℕ) (r : InRange b) where
   buddy-top p =
       split (λ t. cond t (cond (eqb (buddy-byte b p) 0) (next-machine (machines-of b) p) (buddy-byte b p)) 0 ≤ 6) (between 1 (machines-of b) p)
       (λ e. let q = between-true 1 (machines-of b) p e in
-        split (λ t. cond t (next-machine (machines-of b) p) (buddy-byte b p) ≤ 6) (eqb (buddy-byte b p) 0) (λ _. next-top p q) (λ _. named-top p (r .buddies p q)))
+      split (λ t. cond t (next-machine (machines-of b) p) (buddy-byte b p) ≤ 6) (eqb (buddy-byte b p) 0) (λ _. next-top p q) (λ _. named-top p (r .buddies p q)))
       (λ _. omega arith)
 
   pub number-top : (i m : ℕ) → ((c : ℕ) → chare-in-range b c ≡ true → chare-byte b c i ≤ m) → (c : ℕ) → number-of b i c ≤ m

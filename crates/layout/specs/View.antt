@@ -22,7 +22,8 @@ layout-view l = record {
   buddy = cell 6 (l .buddy);
   home = cell 6 (l .home);
   first = cell 12 (l .first);
-  second = cell 12 (l .second) }
+  second = cell 12 (l .second);
+}
 
 -- the two halves of a job's range
 unfoldable pub buddies-in-range : List ℕ → Bool

@@ -50,9 +50,9 @@ unfolding Filled
 cell-filled m n l f size h low high top k =
     ⊎-elim (λ e. sym (cell-zero m l k e) ∙ sym (ap f e ∙ low))
     (λ e. ⊎-elim
-      (λ r. sym (cell-in m l k e) ∙ rw (h k r) (small (top k)))
-      (λ r. sym (cell-end m l k (omega arith)) ∙ sym (high k r))
-      (lt? k n))
+    (λ r. sym (cell-in m l k e) ∙ rw (h k r) (small (top k)))
+    (λ r. sym (cell-end m l k (omega arith)) ∙ sym (high k r))
+    (lt? k n))
     (eq? k 0)
   where
     small : {x : ℕ} → x ≤ m → min x m ≡ x
@@ -75,7 +75,8 @@ layout-is l j s m c b h f g = λ i. record {
   buddy = λ k. b k i;
   home = λ k. h k i;
   first = λ k. f k i;
-  second = λ k. g k i }
+  second = λ k. g k i;
+}
 
 -- ---- what holds of every layout
 pub cell-top : (m : ℕ) (l : List ℕ) (k : ℕ) → cell m l k ≤ m

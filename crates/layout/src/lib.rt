@@ -1,9 +1,8 @@
 // The layout of a job: machines, chares, buddies, homes and ports, and how it is read from a line.
 ghost use mathlib.Core.Path.{_≡_};
 ghost use mathlib.Core.Bool.{cond};
-ghost use Prim.Native.Nat.{ℕ, _<_, min};
+ghost use Prim.Native.Nat.{min};
 ghost use lib.Dec.{leb};
-ghost use lib.ListN.{length, getD};
 ghost use Rattle.protocol.specs.Parts.{no-job, on};
 ghost use Rattle.protocol.specs.Sending.{is-local};
 ghost use Rattle.protocol.specs.Packets.{destination};
@@ -145,7 +144,8 @@ pub fn is_chare(l: Layout, c: u8) -> bool
 pub fn is_sender(l: Layout, c: u8) -> bool
     ensures { λ r. ⌜ r ≡ leb c (layout-view l .chares) ⌝ }
 {
-    c <= chares(l)
+    let last = chares(l);
+    c <= last
 }
 
 fn buddy_byte(line: &[u8], p: u8) -> u8

@@ -36,7 +36,8 @@ fn at_most(n: u8) -> u8
 pub fn count(n: Notes) -> u8
     ensures { λ r. ⌜ r ≡ length (noted n) ⌝ }
 {
-    at_most(n.len)
+    let len = n.len;
+    at_most(len)
 }
 
 fn same(a: Note, b: Note) -> bool

@@ -2,7 +2,7 @@
 ghost use mathlib.Core.Path.{_≡_};
 ghost use mathlib.Core.List.{[], map};
 ghost use Prim.Native.Nat.{min};
-ghost use lib.ListN.{length, getD, getElem?};
+ghost use lib.ListN.{length, getD};
 ghost use Rattle.lists.specs.Lists.{find as first, change1, keep};
 ghost use Rattle.arrays.specs.Front.{push as pushed};
 ghost use Rattle.arrays.specs.Place.{place as place-of};
@@ -123,51 +123,61 @@ fn place_tn(t: Table, tn: u16) -> usize
     i
 }
 
-// The entry at a place.
-fn entry_at(t: Table, i: usize) -> FoundEntry
-    ensures { λ r. ⌜ found-entry r ≡ getElem? (entries t) i ⌝ }
-{
-    if cap(t.len) <= i {
-        return FoundEntry::Nothing;
-    }
-    let e = t.items[i];
-    FoundEntry::At(e)
-}
-
 // The first entry for a sender and an SN.
 pub fn find(t: Table, sender: u8, sn: u16) -> FoundEntry
     ensures { λ r. ⌜ found-entry r ≡ entry (entries t) sender sn ⌝ }
 {
-    entry_at(t, place(t, sender, sn))
+    let k = cap(t.len);
+    let mut i = 0;
+    while i < k {
+        let e = t.items[i];
+        if is_for(e, sender, sn) {
+            return FoundEntry::At(e);
+        }
+        i += 1;
+    }
+    FoundEntry::Nothing
 }
 
 // The first entry with a TN.
 pub fn find_tn(t: Table, tn: u16) -> FoundEntry
     ensures { λ r. ⌜ found-entry r ≡ first (has-tn tn) (entries t) ⌝ }
 {
-    entry_at(t, place_tn(t, tn))
+    let k = cap(t.len);
+    let mut i = 0;
+    while i < k {
+        let found = t.items[i];
+        if found.tn == tn {
+            return FoundEntry::At(found);
+        }
+        i += 1;
+    }
+    FoundEntry::Nothing
 }
 
 // The first entry for a sender and an SN becomes received, with the message's value and hops.
-pub fn fill(t: Table, sender: u8, sn: u16, value: u16, hops: u8) -> Table
+pub fn fill(mut t: Table, sender: u8, sn: u16, value: u16, hops: u8) -> Table
     ensures { λ r. ⌜ entries r ≡ filled sender sn value hops (entries t) ⌝ }
 {
-    let at = place(t, sender, sn);
-    if cap(t.len) <= at {
-        return t;
+    let k = cap(t.len);
+    let mut i = 0;
+    while i < k {
+        let e = t.items[i];
+        if is_for(e, sender, sn) {
+            t.items[i] = Entry {
+                sender: e.sender,
+                sn: e.sn,
+                tn: e.tn,
+                received: true,
+                noted: e.noted,
+                value,
+                hops,
+            };
+            return t;
+        }
+        i += 1;
     }
-    let e = t.items[at];
-    let mut r = t;
-    r.items[at] = Entry {
-        sender: e.sender,
-        sn: e.sn,
-        tn: e.tn,
-        received: true,
-        noted: e.noted,
-        value,
-        hops,
-    };
-    r
+    t
 }
 
 fn noted(e: Entry) -> Entry
@@ -185,17 +195,20 @@ fn noted(e: Entry) -> Entry
 }
 
 // The first entry for a sender and an SN becomes noted.
-pub fn note(t: Table, sender: u8, sn: u16) -> Table
+pub fn note(mut t: Table, sender: u8, sn: u16) -> Table
     ensures { λ r. ⌜ entries r ≡ change1 (for-message sender sn) note-entry (entries t) ⌝ }
 {
-    let at = place(t, sender, sn);
-    if cap(t.len) <= at {
-        return t;
+    let k = cap(t.len);
+    let mut i = 0;
+    while i < k {
+        let e = t.items[i];
+        if is_for(e, sender, sn) {
+            t.items[i] = noted(e);
+            return t;
+        }
+        i += 1;
     }
-    let e = t.items[at];
-    let mut r = t;
-    r.items[at] = noted(e);
-    r
+    t
 }
 
 // The entries above the height, all noted.

@@ -55,7 +55,8 @@ fn at_most(n: u8) -> u8
 pub fn count(w: Wire) -> u8
     ensures { λ r. ⌜ r ≡ length (packets w) ⌝ }
 {
-    at_most(w.len)
+    let len = w.len;
+    at_most(len)
 }
 
 // One more at the end; a full wire stays.

@@ -1,3 +1,4 @@
+-- `frames::byte` meets its contract: within the line the value of two digits, past its end 0.
 use mathlib.Core.Path.{sym, _∙_}
 use native.Mathlib.Omega.{arith}
 use borrow.Author.Needs.{needs}

@@ -1,3 +1,4 @@
+-- `frames::digit_value` meets its contract: one range of characters after the other.
 use borrow.Author.Needs.{needs}
 use Rattle.frames.specs.Decode.{or-zero, digit-value}
 use Rattle.frames.specs.DigitLaws.{digit-0, digit-1, digit-2, digit-3, digit-4, digit-5, digit-6}

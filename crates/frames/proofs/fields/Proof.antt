@@ -1,3 +1,4 @@
+-- `frames::fields` meets its contract: each kind of frame at its number, and none at any other.
 use borrow.Author.Needs.{needs}
 use borrow.Author.Tests.{ne-eqb}
 use Rattle.protocol.specs.Frames.{parts, two-bytes}

@@ -1,3 +1,4 @@
+-- `frames::is_digit` meets its contract: one range of characters after the other.
 use mathlib.Core.Logic.{⊎-elim}
 use borrow.Author.Tests.{lt-ltb, le-ltb}
 use Rattle.lists.specs.Tests.{lt?}

@@ -1,3 +1,4 @@
+-- `frames::is_hexadecimal` meets its contract: the loop has passed only digits, so the answer is that for the rest.
 use mathlib.Core.Path.{_≡_, sym, _∙_}
 use Prim.Native.Nat.{_≤_, _-_}
 use native.Mathlib.Omega.{arith}
@@ -29,7 +30,7 @@ is-digit-requires : tie.Need-is-digit-requires Inv-loop μ-loop
 is-digit-requires c κs = search needs
 
 returns-2 : tie.Need-returns-2 Inv-loop μ-loop
-returns-2 c = 
+returns-2 c =
     let s = c .before .before .before .before .before .before .before in
     let l = c .before .before .before .before .loop in
     all-miss is-digit (s .args .line .now) (l .i) _ (l .inv .1) (omega arith) (sym (c .before .is-digit .ensures) ∙ not-true _ (c .if2 .taken))

@@ -1,3 +1,4 @@
+-- `frames::is_whole` meets its contract: the entry in the table of least lengths decides, branch by branch.
 use mathlib.Core.Path.{_∙_}
 use borrow.Author.Needs.{needs}
 use Rattle.protocol.specs.Frames.{least, least-length}
@@ -59,9 +60,9 @@ returns-4 c =
     let e = c .before .before .before .before .before in
     let w = e .before .before .before .before in
     whole-job _ _ _ (w .wide .ensures ∙ w .before .byte .ensures) (e .before .before .wide2 .ensures) (e .before .if2 .left) (e .if3 .left) _ _
-        (c .before .before .before .before .if4 .taken)
-        (c .before .before .wide3 .ensures ∙ c .before .before .before .byte2 .ensures)
-        (c .wide4 .ensures ∙ c .before .byte3 .ensures)
+    (c .before .before .before .before .if4 .taken)
+    (c .before .before .wide3 .ensures ∙ c .before .before .before .byte2 .ensures)
+    (c .wide4 .ensures ∙ c .before .byte3 .ensures)
 
 returns-5 : tie.Need-returns-5
 unfolding least-length least

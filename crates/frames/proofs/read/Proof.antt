@@ -1,3 +1,4 @@
+-- `frames::read` meets its contract: a line that is not hexadecimal or not whole has no frame, any other the one of its fields.
 use mathlib.Core.Path.{sym, _∙_}
 use borrow.Author.Needs.{needs}
 use borrow.Author.Tests.{not-true, not-false}

@@ -1,3 +1,4 @@
+-- `layout::buddies` meets its contract: the array has the buddies of all machines below p.
 use mathlib.Core.Path.{_≡_, refl}
 use Prim.Native.Nat.{_≤_, _-_}
 use native.Mathlib.Omega.{arith}

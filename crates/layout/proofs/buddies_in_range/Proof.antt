@@ -1,3 +1,4 @@
+-- `layout::buddies_in_range` meets its contract: those before p pass, so the answer is that for the rest.
 use mathlib.Core.Path.{_≡_, sym, _∙_}
 use Prim.Native.Nat.{_≤_, _-_}
 use native.Mathlib.Omega.{arith}

@@ -1,3 +1,4 @@
+-- `layout::buddy_byte` meets its contract: the byte at its place.
 use borrow.Author.Needs.{needs}
 use Rattle.protocol.specs.Job.{buddy-byte}
 use Rattle.layout.proofs.buddy_byte.Statement.{statement}

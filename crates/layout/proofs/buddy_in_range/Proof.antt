@@ -1,3 +1,4 @@
+-- `layout::buddy_in_range` meets its contract: test by test.
 use borrow.Author.Needs.{needs}
 use Rattle.layout.specs.JobCode.{buddy-high, buddy-itself}
 use Rattle.layout.proofs.buddy_in_range.Statement.{statement}

@@ -1,3 +1,4 @@
+-- `layout::buddy_of` meets its contract: branch by branch.
 use borrow.Author.Needs.{needs}
 use Rattle.layout.specs.JobCode.{no-buddy-low, no-buddy-high, named-buddy, first-machine, next-one}
 use Rattle.layout.proofs.buddy_of.Statement.{statement}

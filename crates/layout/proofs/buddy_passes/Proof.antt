@@ -1,3 +1,4 @@
+-- `layout::buddy_passes` meets its contract: a machine that the job has not passes.
 use mathlib.Core.Path.{_∙_}
 use borrow.Author.Needs.{needs}
 use Rattle.layout.specs.JobCode.{passes-buddy, asks-buddy}

@@ -1,3 +1,4 @@
+-- `layout::cell_of` meets its contract: 0 at 0 and past the end, the clamped number elsewhere.
 use mathlib.Core.Path.{_∙_}
 use borrow.Author.Needs.{needs}
 use Rattle.layout.specs.ViewLaws.{cell-zero, cell-end, cell-in}

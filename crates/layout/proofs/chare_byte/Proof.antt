@@ -1,3 +1,4 @@
+-- `layout::chare_byte` meets its contract: the byte at its place.
 use mathlib.Core.Path.{_∙_}
 use borrow.Author.Needs.{needs}
 use Rattle.protocol.specs.Job.{chare-byte, machines-of}

@@ -1,3 +1,4 @@
+-- `layout::chare_in_range` meets its contract: test by test.
 use borrow.Author.Needs.{needs}
 use Rattle.layout.specs.JobCode.{home-low, home-high, port-high, ports-in}
 use Rattle.layout.proofs.chare_in_range.Statement.{statement}

@@ -1,3 +1,4 @@
+-- `layout::destination` meets its contract: by what `home` and `buddy` ensure, kind by kind.
 use mathlib.Core.Path.{_∙_}
 use borrow.Author.Needs.{needs}
 use borrow.Author.Tests.{eq-eqb, ne-eqb}

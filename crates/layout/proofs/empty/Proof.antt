@@ -1,3 +1,4 @@
+-- `layout::empty` meets its contract: every field is that of no job.
 use mathlib.Core.Path.{refl}
 use Rattle.protocol.specs.Parts.{no-job}
 use Rattle.layout.specs.ViewLaws.{layout-is, cell-none}

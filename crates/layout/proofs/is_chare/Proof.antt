@@ -1,3 +1,4 @@
+-- `layout::is_chare` meets its contract: the two tests of a range.
 use borrow.Author.Needs.{needs}
 use borrow.Author.Tests.{le-leb, lt-leb}
 use Rattle.protocol.specs.Frames.{between}

@@ -1,3 +1,4 @@
+-- `layout::is_local` meets its contract: by what `home` ensures.
 use borrow.Author.Needs.{needs}
 use borrow.Author.Tests.{eq-eqb, ne-eqb}
 use Rattle.protocol.specs.Sending.{is-local}

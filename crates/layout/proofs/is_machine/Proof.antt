@@ -1,3 +1,4 @@
+-- `layout::is_machine` meets its contract: the two tests of a range.
 use borrow.Author.Needs.{needs}
 use borrow.Author.Tests.{le-leb, lt-leb}
 use Rattle.protocol.specs.Frames.{between}

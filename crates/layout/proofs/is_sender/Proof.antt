@@ -1,3 +1,4 @@
+-- `layout::is_sender` meets its contract: by what `chares` ensures.
 use borrow.Author.Needs.{needs}
 use Rattle.layout.proofs.is_sender.Statement.{statement}
 use Rattle.layout.proofs.is_sender.Tie as tie

@@ -1,3 +1,4 @@
+-- `layout::job_in_range` meets its contract: test by test.
 use mathlib.Core.Path.{sym, _∙_}
 use borrow.Author.Needs.{needs}
 use borrow.Author.Tests.{not-true, not-false}
@@ -35,7 +36,7 @@ returns-5 c =
     let d = c .before .before in
     let e = d .before .before .before in
     buddies-out _ _ (e .before .before .byte .ensures) (e .before .if1 .left) (e .if2 .left) _ (d .before .before .byte2 .ensures) (d .before .if3 .left) (d .if4 .left)
-        (sym (c .before .buddies-in-range .ensures) ∙ not-true _ (c .if5 .taken))
+    (sym (c .before .buddies-in-range .ensures) ∙ not-true _ (c .if5 .taken))
 
 chares-in-range-requires : tie.Need-chares-in-range-requires
 chares-in-range-requires c κs = search needs
@@ -47,7 +48,7 @@ returns-6 c =
     let e = d .before .before .before in
     c .chares-in-range .ensures
     ∙ chares-left _ _ (e .before .before .byte .ensures) (e .before .if1 .left) (e .if2 .left) _ (d .before .before .byte2 .ensures) (d .before .if3 .left) (d .if4 .left)
-        (sym (f .before .buddies-in-range .ensures) ∙ not-false _ (f .if5 .left))
+    (sym (f .before .buddies-in-range .ensures) ∙ not-false _ (f .if5 .left))
 
 pub job-in-range-spec : {M : Type 1} → statement M
 job-in-range-spec =

@@ -1,3 +1,4 @@
+-- `layout::job_of` meets its contract: a job in range gives its layout, any other line none.
 use mathlib.Core.Path.{refl, sym, _∙_}
 use borrow.Author.Needs.{needs}
 use borrow.Author.Tests.{not-true, not-false}
@@ -38,11 +39,11 @@ returns-2 c =
     let e = c .before .before .before .before .before .before in
     let ok = sym (e .before .job-in-range .ensures) ∙ not-false _ (e .if1 .left) in
     rw ok (layout-of-job _ ok _ refl (c .before .before .before .before .before .byte .ensures) (c .before .before .before .before .byte2 .ensures)
-      (search needs) (search needs) (search needs) (search needs)
-      (c .before .before .before .buddies .ensures)
-      (c .before .before .numbers .ensures)
-      (c .before .numbers2 .ensures)
-      (c .numbers3 .ensures))
+    (search needs) (search needs) (search needs) (search needs)
+    (c .before .before .before .buddies .ensures)
+    (c .before .before .numbers .ensures)
+    (c .before .numbers2 .ensures)
+    (c .numbers3 .ensures))
 
 pub job-of-spec : {M : Type 1} → statement M
 job-of-spec =

@@ -1,3 +1,4 @@
+-- `layout::machines` meets its contract: the clamp is that of the view.
 use borrow.Author.Needs.{needs}
 use Rattle.layout.specs.View.{layout-view}
 use Rattle.layout.proofs.machines.Statement.{statement}

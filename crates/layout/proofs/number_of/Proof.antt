@@ -1,3 +1,4 @@
+-- `layout::number_of` meets its contract: branch by branch.
 use mathlib.Core.Path.{_∙_}
 use borrow.Author.Needs.{needs}
 use Rattle.layout.specs.JobCode.{no-number-low, no-number-high, a-number}

@@ -1,3 +1,4 @@
+-- `layout::numbers` meets its contract: the array has the numbers of all chares below c.
 use mathlib.Core.Path.{_≡_, refl}
 use Prim.Native.Nat.{_≤_, _-_}
 use native.Mathlib.Omega.{arith}

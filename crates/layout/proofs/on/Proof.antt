@@ -1,3 +1,4 @@
+-- `layout::on` meets its contract: by what `home` ensures.
 use borrow.Author.Needs.{needs}
 use Rattle.protocol.specs.Parts.{on}
 use Rattle.layout.proofs.on.Statement.{statement}

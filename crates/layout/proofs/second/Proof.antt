@@ -1,3 +1,4 @@
+-- `layout::second` meets its contract: a cell of the view.
 use borrow.Author.Needs.{needs}
 use Rattle.layout.specs.View.{layout-view}
 use Rattle.layout.proofs.second.Statement.{statement}

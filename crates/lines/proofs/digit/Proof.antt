@@ -1,3 +1,4 @@
+-- `lines::digit` meets its contract: the digits 0 to 9, and the capitals.
 use borrow.Author.Needs.{needs}
 use borrow.Author.Tests.{lt-ltb, le-ltb}
 use Rattle.protocol.specs.Lines.{printed-digit}

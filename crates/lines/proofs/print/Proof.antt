@@ -1,3 +1,4 @@
+-- `lines::print` meets its contract: each answer, digit by digit.
 use borrow.Author.Needs.{needs}
 use Rattle.protocol.specs.Lines.{line, hexadecimal, two-decimals}
 use Rattle.lines.proofs.print.Statement.{statement}

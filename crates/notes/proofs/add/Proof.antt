@@ -1,3 +1,4 @@
+-- `notes::add` meets its contract: present, it stays; absent, it is put at the end where there is room.
 use mathlib.Core.Path.{sym, _∙_}
 use borrow.Author.Needs.{needs}
 use Rattle.arrays.specs.Front.{long, push-room, no-room}

@@ -1,3 +1,4 @@
+-- `notes::at` meets its contract: within the count the element, past it none.
 use native.Mathlib.Omega.{arith}
 use borrow.Author.Needs.{needs}
 use Rattle.arrays.specs.Front.{long, front-at, front-beyond}

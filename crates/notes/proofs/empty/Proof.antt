@@ -1,3 +1,4 @@
+-- `notes::empty` meets its contract: a count of 0 gives no note.
 use mathlib.Core.Path.{refl}
 use Rattle.notes.specs.View.{noted}
 use Rattle.notes.proofs.empty.Statement.{statement}

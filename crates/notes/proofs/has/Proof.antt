@@ -1,3 +1,4 @@
+-- `notes::has` meets its contract: none of those before i is the note.
 use mathlib.Core.Path.{_≡_, refl, sym, _∙_}
 use Prim.Native.Nat.{_≤_, _-_, min}
 use native.Mathlib.Omega.{arith}

@@ -1,3 +1,4 @@
+-- `notes::same` meets its contract: number by number.
 use borrow.Author.Tests.{eq-eqb, ne-eqb}
 use Rattle.protocol.specs.Packets.{same-note}
 use Rattle.notes.proofs.same.Statement.{statement}

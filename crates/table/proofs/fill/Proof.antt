@@ -1,54 +1,101 @@
--- `fill` changes the entry at the place.
+-- `fill` changes the first entry for the sender and the SN. The loop: those passed are not it, and the table is as it came.
+use mathlib.Core.Path.{_≡_, refl, sym, ap, _∙_}
+use Prim.Native.Nat.{_+_, _-_, _≤_}
 use native.Mathlib.Omega.{arith}
 use borrow.Author.Needs.{needs}
-use Rattle.arrays.specs.Place.{change-at, change-no}
+use lib.ListN.{length, drop}
+use Rattle.lists.specs.Lists.{change1}
+use Rattle.arrays.specs.Place.{place, place-start, place-miss, change-hit, change-end}
 use Rattle.arrays.specs.Front.{long}
-use Rattle.protocol.specs.Tickets.{fill, filled}
+use Rattle.protocol.specs.Tickets.{for-message, fill, filled}
 use Rattle.table.specs.Table.{entries, no-entry}
 use Rattle.table.proofs.fill.Statement.{statement}
 use Rattle.table.proofs.fill.Tie as tie
 
-place-requires : tie.Need-place-requires
-place-requires c κs = search needs
+abbrev Inv-loop : tie.InvT-loop
+Inv-loop sender sn value hops t₀ k i₀ t i =
+    (i ≤ k) × (t ≡ t₀) × (place (for-message sender sn) (entries t) ≡ i + place (for-message sender sn) (drop i (entries t)))
 
-cap-requires : tie.Need-cap-requires
+abbrev μ-loop : tie.MeasureT-loop
+μ-loop sender sn value hops t₀ k i₀ t i = k - i
+
+size : (c : tie.Start Inv-loop μ-loop) → length (c .args .t1 .items) ≡ 16
+size c = search (long, needs)
+
+cap-requires : tie.Need-cap-requires Inv-loop μ-loop
 cap-requires c κs = search needs
 
-returns : tie.Need-returns
-unfolding entries filled
-returns c =
-    let a = c .before .before .before .args in
-    let p = c .before .before .place in
-    change-no (a .t1 .items) 16 (a .t1 .len) (search (long, needs)) _ (p .result) (p .ensures) (fill (a .value) (a .hops)) (omega arith)
+loop-holds : tie.Need-loop-holds Inv-loop μ-loop
+loop-holds c = (search needs, refl, place-start _ _)
 
-mul-e : tie.Need-mul-e
+mul-e : tie.Need-mul-e Inv-loop μ-loop
 mul-e c = search needs
 
-element-copy-out-e : tie.Need-element-copy-out-e
+element-copy-out-e : tie.Need-element-copy-out-e Inv-loop μ-loop
 element-copy-out-e c = search needs
 
-mul-t11 : tie.Need-mul-t11
-mul-t11 c = search needs
+is-for-requires : tie.Need-is-for-requires Inv-loop μ-loop
+is-for-requires c κs = search needs
 
-element-set-from-r : tie.Need-element-set-from-r
-element-set-from-r c = search needs
+mul-t18 : tie.Need-mul-t18 Inv-loop μ-loop
+mul-t18 c = search needs
 
-returns-2 : tie.Need-returns-2
+element-set-from-t : tie.Need-element-set-from-t Inv-loop μ-loop
+element-set-from-t c = search needs
+
+returns : tie.Need-returns Inv-loop μ-loop
 unfolding entries filled fill
+returns c =
+    let s = c .before .before .before .before .before .before in
+    let l = c .before .before .before .before .loop in
+    let n : l .t .len ≡ s .args .t1 .len = ap (λ u. u .len) (l .inv .1) in
+    let z : length (l .t .items) ≡ 16 = ap (λ u. length (u .items)) (l .inv .1) ∙ size s in
+    change-hit (l .t .items) 16 (l .t .len) z _ (fill (s .args .value) (s .args .hops)) (l .i) (l .inv .2) no-entry (omega arith) (sym (c .before .is-for .ensures) ∙ c .if1 .taken)
+    ∙ ap (λ u. change1 (for-message (s .args .sender) (s .args .sn)) (fill (s .args .value) (s .args .hops)) (entries u)) (l .inv .1)
+
+add-i : tie.Need-add-i Inv-loop μ-loop
+add-i c = search needs
+
+loop-less : tie.Need-loop-less Inv-loop μ-loop
+loop-less c = search needs
+
+loop-again : tie.Need-loop-again Inv-loop μ-loop
+unfolding entries
+loop-again c =
+    let s = c .before .before .before .before .before .before in
+    let l = c .before .before .before .before .loop in
+    let n : l .t .len ≡ s .args .t1 .len = ap (λ u. u .len) (l .inv .1) in
+    let z : length (l .t .items) ≡ 16 = ap (λ u. length (u .items)) (l .inv .1) ∙ size s in (
+      search needs,
+      l .inv .1,
+      place-miss (l .t .items) 16 (l .t .len) z _ (l .i) (l .inv .2) no-entry (omega arith) (sym (c .before .is-for .ensures) ∙ c .if1 .left),
+    )
+
+returns-2 : tie.Need-returns-2 Inv-loop μ-loop
+unfolding entries filled
 returns-2 c =
-    let a = c .before .before .before .before .args in
-    let p = c .before .before .before .place in
-    change-at (a .t1 .items) 16 (a .t1 .len) (search (long, needs)) _ (p .result) (p .ensures) (fill (a .value) (a .hops)) no-entry (omega arith)
+    let s = c .before .before .before in
+    let l = c .before .loop in
+    let n : l .t .len ≡ s .args .t1 .len = ap (λ u. u .len) (l .inv .1) in
+    let z : length (l .t .items) ≡ 16 = ap (λ u. length (u .items)) (l .inv .1) ∙ size s in
+    change-end (l .t .items) 16 (l .t .len) z _ (fill (s .args .value) (s .args .hops)) (l .i) (l .inv .2) (omega arith)
+    ∙ ap (λ u. change1 (for-message (s .args .sender) (s .args .sn)) (fill (s .args .value) (s .args .hops)) (entries u)) (l .inv .1)
 
 pub fill-spec : {M : Type 1} → statement M
 fill-spec =
     tie.close
     (tie.spec
-    place-requires
+    Inv-loop
+    μ-loop
     cap-requires
-    returns
+    loop-holds
     mul-e
     element-copy-out-e
-    mul-t11
-    element-set-from-r
+    is-for-requires
+    mul-t18
+    element-set-from-t
+    returns
+    add-i
+    loop-less
+    loop-again
     returns-2)

@@ -1,3 +1,4 @@
+-- `wire::after_crash` meets its contract: by what `sift` ensures.
 use borrow.Author.Needs.{needs}
 use Rattle.wire.specs.View.{stays}
 use Rattle.wire.proofs.after_crash.Statement.{statement}

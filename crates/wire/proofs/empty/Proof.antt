@@ -1,3 +1,4 @@
+-- `wire::empty` meets its contract: a count of 0 gives no packet.
 use mathlib.Core.Path.{refl}
 use Rattle.wire.specs.View.{packets}
 use Rattle.wire.proofs.empty.Statement.{statement}

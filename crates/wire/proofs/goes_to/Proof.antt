@@ -1,3 +1,4 @@
+-- `wire::goes_to` meets its contract: by what `kind` and `destination` ensure.
 use mathlib.Core.Path.{_∙_}
 use borrow.Author.Needs.{needs}
 use Rattle.protocol.specs.Packets.{goes-to}

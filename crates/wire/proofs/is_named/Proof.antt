@@ -1,3 +1,4 @@
+-- `wire::is_named` meets its contract: test by test.
 use borrow.Author.Needs.{needs}
 use borrow.Author.Tests.{eq-eqb, ne-eqb}
 use Rattle.protocol.specs.Packets.{is-named}

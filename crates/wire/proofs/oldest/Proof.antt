@@ -1,3 +1,4 @@
+-- `wire::oldest` meets its contract: none of those before i has the name.
 use mathlib.Core.Path.{_≡_, sym, _∙_}
 use Prim.Native.Nat.{_≤_, _+_, _-_, min}
 use native.Mathlib.Omega.{arith}

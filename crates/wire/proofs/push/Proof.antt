@@ -1,3 +1,4 @@
+-- `wire::push` meets its contract: at the end where there is room.
 use borrow.Author.Needs.{needs}
 use Rattle.arrays.specs.Front.{long, push-room, no-room}
 use Rattle.wire.specs.View.{packets}

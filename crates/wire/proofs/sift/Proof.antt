@@ -1,3 +1,4 @@
+-- `wire::sift` meets its contract: of those before i, the m that stay stand at the front.
 use mathlib.Core.List.{_++_}
 use mathlib.Core.Path.{_≡_, refl, sym, _∙_}
 use Prim.Native.Nat.{_≤_, _-_, min}

@@ -1,3 +1,4 @@
+-- `wire::stays` meets its contract: one test for a crash, one for a restart.
 use mathlib.Core.Path.{_∙_}
 use borrow.Author.Needs.{needs}
 use Rattle.wire.specs.View.{stays}

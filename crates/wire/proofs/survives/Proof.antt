@@ -1,3 +1,4 @@
+-- `wire::survives` meets its contract: test by test.
 use mathlib.Core.Path.{sym, _∙_}
 use borrow.Author.Needs.{needs}
 use borrow.Author.Tests.{not-true, not-false}

@@ -1,3 +1,4 @@
+-- `wire::take` meets its contract: those after the packet found move down by one; j of them stand at the front.
 use mathlib.Core.List.{_++_}
 use mathlib.Core.Path.{_≡_, sym}
 use Prim.Native.Nat.{_<_, _+_, _-_, min}
@@ -40,7 +41,8 @@ returns c =
     let e = c .before .oldest .ensures in
     record {
       wire = remove-no (s .args .t1 .items) 128 (s .args .t1 .len) (size s) _ _ e (omega arith);
-      found = sym (find-no (s .args .t1 .items) 128 (s .args .t1 .len) (size s) _ _ e (omega arith)) }
+      found = sym (find-no (s .args .t1 .items) 128 (s .args .t1 .len) (size s) _ _ e (omega arith));
+    }
 
 mul-p : tie.Need-mul-p Inv-loop μ-loop
 mul-p c = search needs
@@ -98,7 +100,8 @@ returns-2 c =
     let e = c .before .before .before .before .oldest .ensures in
     record {
       wire = fill-end _ (l .r .items) (l .j) _ (l .inv .2) 128 (omega arith) (ended (s .args .t1 .items) 128 (s .args .t1 .len) (size s) (l .j + 1) (omega arith));
-      found = sym (find-at (s .args .t1 .items) 128 (s .args .t1 .len) (size s) _ _ e _ (omega arith)) }
+      found = sym (find-at (s .args .t1 .items) 128 (s .args .t1 .len) (size s) _ _ e _ (omega arith));
+    }
 
 pub take-spec : {M : Type 1} → statement M
 take-spec =

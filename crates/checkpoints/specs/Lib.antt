@@ -1,0 +1,3 @@
+-- What the contracts of checkpoints say, and the laws behind them.
+pub mod Parts
+pub mod Whole

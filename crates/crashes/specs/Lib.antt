@@ -1,0 +1,3 @@
+-- What the contracts of crashes say, and the laws behind them.
+pub mod Parts
+pub mod Whole

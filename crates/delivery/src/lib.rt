@@ -1,0 +1,224 @@
+// Frame 11: the oldest packet of a name leaves the wire and does its work where it arrives.
+mod chare;
+
+ghost use mathlib.Core.Path.{_≡_};
+ghost use Rattle.lists.specs.Questions.{asks};
+ghost use Rattle.protocol.specs.Packets.{note-of};
+ghost use Rattle.protocol.specs.Questions.{deliver-questions, on-wire};
+ghost use Rattle.notes.specs.View.{noted};
+ghost use Rattle.layout.specs.View.{layout-view};
+ghost use Rattle.wire.specs.View.{packets};
+ghost use Rattle.state.specs.View.{statuses, view};
+ghost use Rattle.state.specs.Outcome.{outcome-view, tried};
+ghost use Rattle.delivery.specs.More.{first-no};
+ghost use Rattle.delivery.specs.Effect.{place-of};
+ghost use Rattle.delivery.specs.NoteEffect.{note-effect, note-questions};
+ghost use Rattle.delivery.specs.View.{note-arrived, answered, refused, accepted};
+ghost use Rattle.delivery.specs.Frame.{is-up, in-range, first-questions, delivered};
+use chare::Reply;
+use layout::Layout;
+use notes::Notes;
+use protocol::Answer;
+use protocol::Content;
+use protocol::Note;
+use protocol::Packet;
+use protocol::Status;
+use state::Machine;
+use state::State;
+use state::Stepped;
+use wire::Taken;
+use wire::Wire;
+
+// What a NOTE leaves of a note list. The refusal is 0 if there is none; else the list is as before.
+struct NoteArrived {
+    refusal: u8,
+    notes: Notes,
+}
+
+// NOTE is stored unless present.
+fn note(l: Notes, p: Packet, tn: u16) -> NoteArrived
+    ensures { λ r. ⌜ note-arrived r ≡ asks 7 (note-questions (noted l) (note-of p tn)) (note-effect (noted l) (note-of p tn)) ⌝ }
+{
+    let x = Note {
+        sender: p.sender,
+        receiver: p.receiver,
+        sn: p.sn,
+        tn,
+    };
+    if notes::has(l, x) {
+        return NoteArrived {
+            refusal: 0,
+            notes: l,
+        };
+    }
+    if 64 <= notes::count(l) {
+        return NoteArrived {
+            refusal: 10,
+            notes: l,
+        };
+    }
+    NoteArrived {
+        refusal: 0,
+        notes: notes::add(l, x),
+    }
+}
+
+// The chare whose memory a packet is for: of a GRANT the sender, of others the receiver.
+fn place(p: Packet) -> u8
+    ensures { λ r. ⌜ r ≡ place-of p (p .content) ⌝ }
+{
+    let c = p.content;
+    if wire::kind(c) == 2 {
+        return p.sender;
+    }
+    p.receiver
+}
+
+// The wire with an answer under the packet's own name.
+fn answer(w: Wire, p: Packet, r: Reply) -> Wire
+    ensures { λ v. ⌜ packets v ≡ answered (packets w) p r ⌝ }
+{
+    match r {
+        Reply::Nothing => w,
+        Reply::Send(content) => wire::push(
+            w,
+            Packet {
+                sender: p.sender,
+                receiver: p.receiver,
+                sn: p.sn,
+                content,
+            },
+        ),
+    }
+}
+
+// The desk's place, number 0, is always up.
+fn is_up(machines: [Machine; 7], p: u8) -> bool
+    ensures { λ r. ⌜ r ≡ is-up (statuses machines) p ⌝ }
+{
+    let i = p as usize;
+    if i == 0 {
+        return true;
+    }
+    if 7 <= i {
+        return true;
+    }
+    let m = machines[i];
+    let status = m.status;
+    match status {
+        Status::Up => true,
+        Status::Down => false,
+        Status::CatchingUp => true,
+    }
+}
+
+fn in_range(l: Layout, kind: u8, sender: u8, receiver: u8, sn: u16) -> bool
+    ensures { λ r. ⌜ r ≡ in-range (layout-view l) kind sender receiver sn ⌝ }
+{
+    if kind < 1 {
+        return false;
+    }
+    if 5 < kind {
+        return false;
+    }
+    if !layout::is_sender(l, sender) {
+        return false;
+    }
+    if !layout::is_chare(l, receiver) {
+        return false;
+    }
+    if sn < 1 {
+        return false;
+    }
+    sn <= 60000
+}
+
+// The questions before the packet is sought: the number of the first "no", or 0.
+fn judge(
+    l: Layout,
+    lost: bool,
+    machines: [Machine; 7],
+    kind: u8,
+    sender: u8,
+    receiver: u8,
+    sn: u16,
+) -> u8
+    ensures { λ r. ⌜ r ≡ first-no 2 (first-questions (layout-view l) lost (statuses machines) kind sender receiver sn) ⌝ }
+{
+    if !l.set {
+        return 2;
+    }
+    if !in_range(l, kind, sender, receiver, sn) {
+        return 3;
+    }
+    if lost {
+        return 4;
+    }
+    if !is_up(machines, layout::destination(l, kind, sender, receiver)) {
+        return 5;
+    }
+    0
+}
+
+fn refused(s: State, no: u8) -> Stepped
+    ensures { λ r. ⌜ r ≡ refused s no ⌝ }
+{
+    Stepped {
+        state: s,
+        answer: Answer::Refused(no),
+    }
+}
+
+fn accepted(s: State) -> Stepped
+    ensures { λ r. ⌜ r ≡ accepted s ⌝ }
+{
+    Stepped {
+        state: s,
+        answer: Answer::Accepted,
+    }
+}
+
+// A delivery refused leaves the packet on the wire; one accepted takes it off before an answer is put on.
+pub fn deliver(s: State, kind: u8, sender: u8, receiver: u8, sn: u16) -> Stepped
+    ensures { λ r. ⌜ outcome-view r ≡ tried (view s) (deliver-questions (view s) kind sender receiver sn) (delivered (view s) kind sender receiver sn (on-wire (view s) kind sender receiver sn)) ⌝ }
+{
+    let l = s.layout;
+    let machines = s.machines;
+    let no = judge(l, s.lost, machines, kind, sender, receiver, sn);
+    if no != 0 {
+        return refused(s, no);
+    }
+    let w = s.wire;
+    let d = wire::take(w, kind, sender, receiver, sn);
+    let found = d.found;
+    let Taken::Got(p) = found else {
+        return refused(s, 6);
+    };
+    let rest = d.wire;
+    let content = p.content;
+    if let Content::Note(tn) = content {
+        let h = layout::home(l, p.receiver) as usize;
+        let n = s.notes[h];
+        let a = note(n, p, tn);
+        if a.refusal != 0 {
+            return refused(s, a.refusal);
+        }
+        let mut t = s;
+        let noted = a.notes;
+        t.notes[h] = noted;
+        t.wire = answer(rest, p, Reply::Send(Content::Ack));
+        return accepted(t);
+    }
+    let i = place(p) as usize;
+    let m = s.live[i];
+    let a = chare::arrive(m, p);
+    if a.refusal != 0 {
+        return refused(s, a.refusal);
+    }
+    let mut t = s;
+    let memory = a.memory;
+    let reply = a.reply;
+    t.live[i] = memory;
+    t.wire = answer(rest, p, reply);
+    accepted(t)
+}

@@ -1,0 +1,34 @@
+-- `is_calm` goes by the status.
+use borrow.Author.Needs.{needs}
+use Rattle.machines.specs.Settle.{calm}
+use Rattle.machines.proofs.is_calm.Statement.{statement}
+use Rattle.machines.proofs.is_calm.Tie as tie
+
+status-requires : tie.Need-status-requires
+status-requires c κs = search needs
+
+enum-told : tie.Need-enum-told
+enum-told c = search needs
+
+enum-told-2 : tie.Need-enum-told-2
+enum-told-2 c = search needs
+
+enum-told-3 : tie.Need-enum-told-3
+enum-told-3 c = search needs
+
+returns : tie.Need-returns
+unfolding calm
+returns c = rw (← c .before .before .status .ensures, c .enum-told .given .1)
+
+returns-2 : tie.Need-returns-2
+unfolding calm
+returns-2 c = rw (← c .before .before .status .ensures, c .enum-told2 .given .1)
+
+returns-3 : tie.Need-returns-3
+unfolding calm
+returns-3 c = rw (← c .before .before .status .ensures, c .enum-told3 .given .1)
+
+pub is-calm-spec : {M : Type 1} → statement M
+is-calm-spec =
+    tie.close
+    (tie.spec status-requires enum-told enum-told-2 enum-told-3 returns returns-2 returns-3)

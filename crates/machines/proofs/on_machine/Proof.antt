@@ -1,0 +1,64 @@
+-- `on_machine` fills its array from chare 1 on; the desk is on no machine.
+use mathlib.Core.Path.{_≡_, refl, _∙_}
+use mathlib.Core.Bool.{false}
+use Prim.Native.Nat.{_≤_, _-_}
+use native.Mathlib.Omega.{arith}
+use borrow.Author.Needs.{needs}
+use lib.ListN.{length, length-set}
+use Rattle.arrays.specs.ArrayMap.{as-map, map-blank}
+use Rattle.protocol.specs.Parts.{on}
+use Rattle.machines.specs.Homes.{desk-off, beyond-off}
+use Rattle.machines.specs.Sweep.{front, front-start, front-end, array-put}
+use Rattle.layout.specs.View.{layout-view}
+use Rattle.machines.proofs.on_machine.Statement.{statement}
+use Rattle.machines.proofs.on_machine.Tie as tie
+
+abbrev Inv-loop : tie.InvT-loop
+Inv-loop l p a₀ c₀ a c = (1 ≤ c) × (c ≤ 13) × (length a ≡ 13) × (as-map false a ≡ front c (on (layout-view l) p) (λ _. false))
+
+abbrev μ-loop : tie.MeasureT-loop
+μ-loop l p a₀ c₀ a c = 13 - c
+
+loop-holds : tie.Need-loop-holds Inv-loop μ-loop
+loop-holds c = (search needs, search needs, refl, map-blank false 13 ∙ front-start 1 _ _ (desk-off _ _ (c .pre)))
+
+on-requires : tie.Need-on-requires Inv-loop μ-loop
+on-requires c κs = search needs
+
+cast-a : tie.Need-cast-a Inv-loop μ-loop
+cast-a c = search needs
+
+array-write-a : tie.Need-array-write-a Inv-loop μ-loop
+array-write-a c = search needs
+
+add-c : tie.Need-add-c Inv-loop μ-loop
+add-c c = search needs
+
+loop-less : tie.Need-loop-less Inv-loop μ-loop
+loop-less c = search needs
+
+loop-again : tie.Need-loop-again Inv-loop μ-loop
+loop-again c =
+    let l = c .before .before .loop in
+    (search needs, search needs, simp length-set (l .inv .2), array-put false (l .a) (l .c) _ _ _ (l .inv .3) (omega arith) (c .on .ensures))
+
+returns : tie.Need-returns Inv-loop μ-loop
+returns c =
+    let s = c .before .before in
+    let l = c .before .loop in
+    front-end (l .c) _ _ _ (l .inv .3) 13 (omega arith) (beyond-off _ _ (s .pre) (search needs))
+
+pub on-machine-spec : {M : Type 1} → statement M
+on-machine-spec =
+    tie.close
+    (tie.spec
+    Inv-loop
+    μ-loop
+    loop-holds
+    on-requires
+    cast-a
+    array-write-a
+    add-c
+    loop-less
+    loop-again
+    returns)

@@ -1,0 +1,77 @@
+-- The end of catching up, on the parts that it reads and changes.
+use mathlib.Core.Path.{_≡_, refl}
+use mathlib.Core.Bool.{Bool, true, false, not, _&&_, _||_}
+use mathlib.Core.List.{List}
+use Prim.Native.Nat.{ℕ, _<_, _≤_}
+use borrow.Author.Tests.{lt-leb, le-leb}
+use lib.Dec.{leb}
+use lib.ListN.{getD}
+use Rattle.lists.specs.Lists.{allb}
+use Rattle.arrays.specs.ArrayMap.{as-map}
+use Rattle.protocol.specs.declared.Status.{Status}
+use Rattle.protocol.specs.declared.Status.the-variants.{Up, Down, CatchingUp}
+use Rattle.protocol.specs.Parts.{State, with-status, is-down, is-catching-up, every-machine, every-chare}
+use Rattle.protocol.specs.Restart.{settle-machine}
+use Rattle.layout.specs.declared.Layout.{Layout}
+use Rattle.layout.specs.View.{layout-view}
+use Rattle.layout.specs.Loops.{each}
+use Rattle.log.specs.Log.{has-ticket}
+use Rattle.state.specs.View.{statuses, helds}
+use Rattle.machines.specs.declared.Course.{Course}
+
+-- the status of a machine that is not catching up and, asked strictly, not down
+unfoldable pub calm : Bool → Status → Bool
+calm strict Up = true
+calm strict Down = not strict
+calm strict CatchingUp = false
+
+pub calm-strict : (x : Status) → calm true x ≡ not (is-down x || is-catching-up x)
+unfolding calm is-down is-catching-up
+calm-strict Up = refl
+calm-strict Down = refl
+calm-strict CatchingUp = refl
+
+pub calm-settled : (x : Status) → calm false x ≡ not (is-catching-up x)
+unfolding calm is-catching-up
+calm-settled Up = refl
+calm-settled Down = refl
+calm-settled CatchingUp = refl
+
+-- a state with the machines where q has them
+unfoldable pub at : State → Course → State
+at s q = with-status s (statuses (q .machines)) (as-map 0 (q .target))
+
+-- chare c is none of the machine's, or has caught up
+unfoldable pub passes : (ℕ → Bool) → (ℕ → ℕ) → (ℕ → Bool) → (ℕ → ℕ) → ℕ → Bool
+passes home height waits target c = not (home c) || (leb (target c) (height c) && not (waits c))
+
+module _ (which waits : List Bool) (heights target : List ℕ) (c : ℕ) where
+  abbrev passing : Bool
+  passing = passes (as-map false which) (as-map 0 heights) (as-map false waits) (as-map 0 target) c
+
+  pub pass-other : getD which c false ≡ false → true ≡ passing
+  unfolding passes as-map
+  pass-other e = rw e
+
+  module _ (e : getD which c false ≡ true) where
+    pub pass-behind : getD heights c 0 < getD target c 0 → false ≡ passing
+    unfolding passes as-map
+    pass-behind h = rw (e, lt-leb (getD target c 0) (getD heights c 0) h)
+
+    pub pass-there : getD target c 0 ≤ getD heights c 0 → not (getD waits c false) ≡ passing
+    unfolding passes as-map
+    pass-there h = rw (e, le-leb (getD target c 0) (getD heights c 0) h)
+
+-- r is q after machine p settles, in every state with that layout, these heights and these logs
+pub record Settles (l : Layout) (heights : List ℕ) (waits : List Bool) (p : ℕ) (q r : Course) : Type 0 where
+  pub settled : (s : State) → layout-view l ≡ s .job → as-map 0 heights ≡ (λ c. s .live c .height) → as-map false waits ≡ (λ c. not (allb has-ticket (s .live c .log))) → at s r ≡ settle-machine (at s q) p
+  pub held : helds (r .machines) ≡ helds (q .machines)
+
+-- ---- the loops
+pub each-machine : (f : ℕ → Bool) → allb f every-machine ≡ each f 6 1
+unfolding allb each every-machine
+each-machine f = refl
+
+pub each-chare : (f : ℕ → Bool) → allb f every-chare ≡ each f 12 1
+unfolding allb each every-chare
+each-chare f = refl

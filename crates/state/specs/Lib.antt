@@ -1,0 +1,4 @@
+-- The view of the engine's state as the definitions' state.
+pub mod View
+pub mod Store
+pub mod Outcome

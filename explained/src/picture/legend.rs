@@ -1,0 +1,99 @@
+//! The legend: a sample and a word for everything that the picture uses.
+
+use super::arrows::{colour, put_arrow};
+use super::columns::put_refusal;
+use super::lanes::{put_band, Look};
+use super::layout::pill_width;
+use super::marks::put_pill;
+use super::record::{End, MarkKind};
+use super::svg::{text_width, Anchor, Point, Svg};
+use crate::names;
+use reference::wire::Kind;
+use reference::world::Phase;
+
+#[derive(Clone, Copy)]
+enum Sample {
+    Packet(Kind, End),
+    Pill(MarkKind, &'static str),
+    Lane(Look),
+    Refusal,
+}
+
+const SAMPLES: [(Sample, &str); 17] = [
+    (Sample::Packet(Kind::Ask, End::Delivered(0)), ""),
+    (Sample::Packet(Kind::Grant, End::Delivered(0)), ""),
+    (Sample::Packet(Kind::Data, End::Delivered(0)), ""),
+    (Sample::Packet(Kind::Note, End::Delivered(0)), ""),
+    (Sample::Packet(Kind::Ack, End::Delivered(0)), ""),
+    (
+        Sample::Packet(Kind::Ask, End::Lost(0)),
+        "taken off the wire",
+    ),
+    (
+        Sample::Packet(Kind::Ask, End::OnWire),
+        "not delivered by the end",
+    ),
+    (Sample::Lane(Look::In(Phase::Up)), "up"),
+    (Sample::Lane(Look::In(Phase::Down)), "down"),
+    (Sample::Lane(Look::In(Phase::CatchingUp)), "catching up"),
+    (Sample::Lane(Look::Idle), "no job, or run lost"),
+    (Sample::Pill(MarkKind::Work, "work"), ""),
+    (Sample::Pill(MarkKind::Show, "show"), ""),
+    (Sample::Pill(MarkKind::Checkpoint, "checkpoint"), ""),
+    (Sample::Pill(MarkKind::Crash, "crash"), ""),
+    (Sample::Pill(MarkKind::Restart, "restart, caught up"), ""),
+    (Sample::Refusal, "refused: the question's number"),
+];
+
+pub const NAMES: &str = "a→b #n: the message from sender a (0 is the desk) to chare b with SN n";
+const ROW: f64 = 24.0;
+const GAP: f64 = 22.0;
+
+fn sample_width(sample: Sample) -> f64 {
+    match sample {
+        Sample::Packet(..) => 44.0,
+        Sample::Pill(_, text) => pill_width(text),
+        Sample::Lane(_) => 12.0,
+        Sample::Refusal => 26.0,
+    }
+}
+
+fn word(sample: Sample, word: &'static str) -> &'static str {
+    match sample {
+        Sample::Packet(kind, End::Delivered(_)) => names::kind(kind),
+        _ => word,
+    }
+}
+
+/// Draws the legend from `top` down and returns where it ends.
+pub fn put_legend(svg: &mut Svg, width: f64, top: f64) -> f64 {
+    const LEFT: f64 = 16.0;
+    let (mut x, mut y) = (LEFT, top);
+    for (sample, text) in SAMPLES {
+        let text = word(sample, text);
+        let wide = sample_width(sample);
+        let whole = wide + 6.0 + text_width(text);
+        if x > LEFT && x + whole > width - LEFT {
+            (x, y) = (LEFT, y + ROW);
+        }
+        put_sample(svg, sample, x, y, wide);
+        let place = Point::new(x + wide + 6.0, y + 4.0);
+        svg.text(place, Anchor::Start, "", text);
+        x += whole + GAP;
+    }
+    svg.text(Point::new(LEFT, y + ROW + 4.0), Anchor::Start, "", NAMES);
+    y + 2.0 * ROW
+}
+
+fn put_sample(svg: &mut Svg, sample: Sample, x: f64, y: f64, wide: f64) {
+    let middle = Point::new(x + wide / 2.0, y);
+    match sample {
+        Sample::Packet(kind, end) => {
+            let (tail, head) = (Point::new(x + 3.0, y), Point::new(x + wide - 5.0, y));
+            put_arrow(svg, &[tail, head], colour(kind), end);
+        }
+        Sample::Pill(kind, text) => put_pill(svg, middle, kind, text),
+        Sample::Lane(look) => put_band(svg, middle.x, y - 9.0, y + 9.0, look),
+        Sample::Refusal => put_refusal(svg, middle, "05"),
+    }
+}

@@ -1,0 +1,91 @@
+//! The words for a crash, with cover and without.
+
+use super::Done;
+use crate::names::{count, joined, packet};
+use crate::play::Step;
+use reference::frame::Frame;
+use reference::job::ix;
+use reference::world::{destination, Phase};
+
+/// A crash with cover.
+pub fn words(done: &Done, machine: u8) -> Vec<String> {
+    let buddy = done.job.buddy_of(machine);
+    let mut lines = vec![
+        format!("Crash of machine {machine}: it is down now."),
+        format!(
+            "There is cover: no machine is down or catching up, \
+                    and machine {buddy}, the buddy, holds its copy."
+        ),
+    ];
+    let chares: Vec<String> = done
+        .job
+        .chares_on(machine)
+        .map(|chare| format!("chare {chare} (height {})", done.before.chare(chare).height))
+        .collect();
+    if !chares.is_empty() {
+        lines.push(format!("Its memory is gone: {}.", joined(&chares)));
+    }
+    for backed in done.job.machines() {
+        let backup = &done.before.backups[ix(backed)];
+        if done.job.buddy_of(backed) == machine && backup.has_copy {
+            let notes = match backup.notes.len() {
+                0 => "no notes".to_string(),
+                held => count(held, "note"),
+            };
+            lines.push(format!(
+                "Gone too: what it kept for machine {backed}, a copy and {notes}. \
+                    Machine {backed} has no cover until its next checkpoint."
+            ));
+        }
+    }
+    let gone = gone(done);
+    let to_it = |name| destination(done.job, name) == machine;
+    let (to, given): (Vec<_>, Vec<_>) = gone.into_iter().partition(|&(name, _)| to_it(name));
+    for (packets, why) in [(to, "on their way to it"), (given, "tickets it gave")] {
+        if !packets.is_empty() {
+            let packets: Vec<String> = packets.iter().map(|&(n, c)| packet(n, c)).collect();
+            lines.push(format!("Off the wire, {why}: {}.", joined(&packets)));
+        }
+    }
+    lines
+}
+
+/// The packets that a crash or a restart took off the wire.
+pub fn gone(done: &Done) -> Vec<crate::traffic::Packet> {
+    let packet = |&at: &usize| (done.before.wire.names()[at], done.before.wire.content(at));
+    done.change.gone.iter().map(packet).collect()
+}
+
+/// A crash without cover.
+pub fn lost(step: &Step) -> Vec<String> {
+    let Some(Frame::Crash { machine }) = step.frame else {
+        return Vec::new();
+    };
+    vec![
+        format!(
+            "Crash of machine {machine} without cover: {}.",
+            no_cover(step, machine)
+        ),
+        "The run is lost. Nothing else changes, and no later frame is accepted.".to_string(),
+    ]
+}
+
+/// Why a crash of this machine has no cover.
+pub fn no_cover(step: &Step, machine: u8) -> String {
+    let world = &step.before.world;
+    let Some(job) = step.job() else {
+        return String::new();
+    };
+    for other in job.machines() {
+        match world.phases[ix(other)] {
+            Phase::Up => {}
+            Phase::Down => return format!("machine {other} is down"),
+            Phase::CatchingUp if other == machine => return "it is catching up itself".to_string(),
+            Phase::CatchingUp => return format!("machine {other} is catching up"),
+        }
+    }
+    format!(
+        "machine {}, the buddy, does not hold its copy",
+        job.buddy_of(machine)
+    )
+}

@@ -1,0 +1,48 @@
+//! A frame in a few words, for the margin of the picture.
+
+use super::refusal;
+use crate::names::{count, message, short};
+use crate::play::Step;
+use reference::answer::Answer;
+use reference::frame::Frame;
+use reference::job::ix;
+use reference::limits::DESK;
+
+/// What the frame did, or why it was refused.
+pub fn headline(step: &Step) -> String {
+    if let Answer::Refused(question) = step.answer {
+        return refusal::reason(step, question);
+    }
+    let Some(frame) = &step.frame else {
+        return String::new();
+    };
+    match *frame {
+        Frame::Job(ref draft) => {
+            let [machines, chares] = [draft.machines, draft.chares].map(usize::from);
+            format!(
+                "job: {}, {}",
+                count(machines, "machine"),
+                count(chares, "chare")
+            )
+        }
+        Frame::Inject { chare, value, .. } => {
+            let sn = step.after.world.desk.sent[ix(chare)];
+            format!("inject {}, value {value}", message(DESK, chare, sn))
+        }
+        Frame::Deliver { .. } => match refusal::named(frame) {
+            Some(name) => format!("deliver {}", short(name)),
+            None => String::new(),
+        },
+        Frame::Work { chare } => {
+            let me = step.after.world.chare(chare);
+            format!("work, chare {chare}: state {:08X}", me.state)
+        }
+        Frame::Checkpoint { machine } => format!("checkpoint of machine {machine}"),
+        Frame::Crash { machine } => match step.answer {
+            Answer::Lost => format!("crash of machine {machine}, no cover"),
+            _ => format!("crash of machine {machine}, with cover"),
+        },
+        Frame::Restart { machine } => format!("restart of machine {machine}"),
+        Frame::Show { chare } => format!("show chare {chare}"),
+    }
+}

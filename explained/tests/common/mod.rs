@@ -1,0 +1,40 @@
+//! The example lists, and a list explained.
+
+// Not every test needs all of it.
+#![allow(dead_code)]
+
+use explained::engine::transcript;
+use explained::report::{report, Report};
+use std::fs;
+use std::path::{Path, PathBuf};
+
+/// The folder of the example lists.
+pub fn folder() -> PathBuf {
+    Path::new(env!("CARGO_MANIFEST_DIR")).join("../examples")
+}
+
+/// The names of all examples, in order.
+pub fn names() -> Vec<String> {
+    let files = fs::read_dir(folder()).expect("the examples' folder");
+    let paths = files.map(|file| file.expect("a file").path());
+    let lists = paths.filter(|path| path.extension().is_some_and(|end| end == "in"));
+    let stem = |path: PathBuf| {
+        path.file_stem()
+            .expect("a name")
+            .to_string_lossy()
+            .into_owned()
+    };
+    let mut names: Vec<String> = lists.map(stem).collect();
+    names.sort();
+    names
+}
+
+pub fn list(name: &str) -> Vec<u8> {
+    fs::read(folder().join(format!("{name}.in"))).expect("a list")
+}
+
+pub fn explained(input: &[u8]) -> Report {
+    let report = report(input, &transcript(input));
+    assert_eq!(report.difference, None);
+    report
+}

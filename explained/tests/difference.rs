@@ -1,0 +1,58 @@
+//! A line that differs from the engine's is told loudly.
+
+use explained::play::{play, Difference};
+use explained::report::report;
+
+const LIST: &[u8] = b"0102020201010200020000\n1001000301\n1601\n";
+const LINES: &[u8] = b"00\n00\n00000000000001\n";
+
+#[test]
+fn equal_lines_are_quiet() {
+    let report = report(LIST, LINES);
+    assert_eq!(report.difference, None);
+    assert_eq!(report.status(), 0);
+    assert!(!report.text.contains("!!!"));
+}
+
+#[test]
+fn the_message_names_the_frame_and_both_lines() {
+    let report = report(LIST, b"00\n09\n00000000000001\n");
+    let want = Difference {
+        number: 2,
+        frame: "1001000301".to_string(),
+        engine: "09".to_string(),
+        second: "00".to_string(),
+    };
+    assert_eq!(report.difference, Some(want));
+    assert_eq!(report.status(), 1);
+    let text = &report.text;
+    assert!(text.contains("!!! THE LINES DIFFER AT FRAME 2\n"), "{text}");
+    assert!(
+        text.contains("!!! frame:                 1001000301\n"),
+        "{text}"
+    );
+    assert!(text.contains("!!! proved engine:         09\n"), "{text}");
+    assert!(text.contains("!!! second implementation: 00\n"), "{text}");
+    // The frame before is explained, the one that differs and those after it are not.
+    assert!(text.contains("Job: "));
+    assert!(!text.contains("Inject: ") && !text.contains("Show: "));
+}
+
+fn first_difference(lines: &[u8]) -> (usize, String, String) {
+    let difference = play(LIST, lines, |_| {}).expect_err("a difference");
+    (difference.number, difference.engine, difference.second)
+}
+
+#[test]
+fn lines_that_are_missing_cut_or_too_many() {
+    let (none, shown) = ("(no line)".to_string(), "00000000000001".to_string());
+    assert_eq!(
+        first_difference(b"00\n00\n"),
+        (3, none.clone(), shown.clone())
+    );
+    let cut = format!("{shown} (without a newline)");
+    assert_eq!(first_difference(&LINES[..LINES.len() - 1]), (3, cut, shown));
+    let more = [LINES, b"00\n"].concat();
+    assert_eq!(first_difference(&more), (4, "00".to_string(), none.clone()));
+    assert_eq!(first_difference(b""), (1, none, "00".to_string()));
+}

@@ -1,0 +1,63 @@
+//! Every example's stored files are what the tool makes.
+
+mod common;
+
+use common::{explained, folder, list, names};
+use explained::picture::draw;
+use reference::reader::Sitting;
+use std::fs;
+
+fn stored(name: &str, end: &str) -> String {
+    let file = folder().join(format!("{name}.{end}"));
+    fs::read_to_string(&file).unwrap_or_else(|e| panic!("{}: {e}", file.display()))
+}
+
+#[test]
+fn there_are_examples() {
+    assert!(names().len() >= 12);
+}
+
+#[test]
+fn lines() {
+    for name in names() {
+        let mut sitting = Sitting::new();
+        let mut lines = Vec::new();
+        sitting.feed(&list(&name), &mut lines);
+        sitting.finish(&mut lines);
+        assert_eq!(stored(&name, "out").as_bytes(), lines, "{name}");
+    }
+}
+
+#[test]
+fn texts() {
+    for name in names() {
+        let text = explained(&list(&name)).text;
+        assert!(stored(&name, "txt") == text, "{name}.txt is not up to date");
+    }
+}
+
+#[test]
+fn pictures() {
+    for name in names() {
+        let picture = draw(&name, &explained(&list(&name)).story);
+        assert!(
+            stored(&name, "svg") == picture,
+            "{name}.svg is not up to date"
+        );
+    }
+}
+
+/// A title, and two to ten lines that say what the list is about.
+#[test]
+fn explanations() {
+    for name in names() {
+        let text = stored(&name, "md");
+        let lines: Vec<&str> = text.lines().filter(|line| !line.is_empty()).collect();
+        assert!(lines[0].starts_with("# "), "{name}");
+        assert!(
+            (3..=11).contains(&lines.len()),
+            "{name}: {} lines",
+            lines.len()
+        );
+    }
+}

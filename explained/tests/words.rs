@@ -1,0 +1,162 @@
+//! Words for what no short list reaches.
+
+use explained::play::Step;
+use explained::words::words;
+use reference::answer::{Answer, Question};
+use reference::frame::parse;
+use reference::state::State;
+use reference::world::{Note, Phase};
+
+/// The words for a frame that is put to a state.
+fn said(before: &State, given: &str, want: Answer) -> String {
+    let mut after = before.clone();
+    let answer = after.line(given.as_bytes());
+    assert_eq!(answer, want, "{given}");
+    let mut line = Vec::new();
+    answer.print(&mut line);
+    let step = Step {
+        number: 1,
+        given: given.as_bytes(),
+        frame: parse(given.as_bytes()),
+        answer,
+        line: std::str::from_utf8(&line).expect("digits").trim_end(),
+        before,
+        after: &after,
+        lost_at: None,
+    };
+    words(&step).join("\n")
+}
+
+/// The state after a job and some accepted frames.
+fn played(job: &str, frames: &[&str]) -> State {
+    let mut state = State::new();
+    for frame in [job].iter().chain(frames) {
+        assert_eq!(state.line(frame.as_bytes()), Answer::Accepted, "{frame}");
+    }
+    state
+}
+
+/// Chare 1 on machine 1 writes to chare 2 on machine 2.
+const APART: &str = "0102020201010200020000";
+/// Chare 1 writes to chare 2 on the same machine.
+const TOGETHER: &str = "0102020201010200010000";
+/// A message to chare 1, up to its work.
+const WORKED: [&str; 5] = [
+    "1001000301",
+    "110100010001",
+    "110200010001",
+    "110300010001",
+    "1201",
+];
+
+/// A restarted sender sends its DATA a second time.
+const DATA_TWICE: [&str; 9] = [
+    "110101020001",
+    "110201020001",
+    "1401",
+    "1501",
+    "110300010001",
+    "1201",
+    "110101020001",
+    "110201020001",
+    "110301020001",
+];
+
+#[test]
+fn data_that_was_received_before() {
+    let state = played(APART, &[&WORKED[..], &DATA_TWICE].concat());
+    let text = said(&state, "110301020001", Answer::Accepted);
+    assert!(
+        text.contains("has received 1→2 #1, TN 1, before: dropped."),
+        "{text}"
+    );
+}
+
+#[test]
+fn data_without_an_entry() {
+    let done = ["1202", "1302"];
+    let state = played(APART, &[&WORKED[..], &DATA_TWICE, &done].concat());
+    let text = said(&state, "110301020001", Answer::Accepted);
+    assert!(
+        text.contains("has no ticket for 1→2 #1 in its table: dropped."),
+        "{text}"
+    );
+}
+
+#[test]
+fn a_note_that_is_there_already() {
+    let mut state = played(TOGETHER, &WORKED);
+    let note = Note {
+        sender: 1,
+        receiver: 2,
+        sn: 1,
+        tn: 1,
+    };
+    assert!(state.world.backups[0].notes.push(note));
+    let text = said(&state, "110401020001", Answer::Accepted);
+    assert!(
+        text.contains("stored already, and not stored twice."),
+        "{text}"
+    );
+}
+
+#[test]
+fn a_number_that_passes_sixty_thousand() {
+    let mut state = played(APART, &[]);
+    state.world.desk.sent[0] = 60_000;
+    let text = said(&state, "1001000300", Answer::Refused(Question::Number));
+    assert!(text.contains("question 7"), "{text}");
+    assert!(text.contains("a number would pass 60000"), "{text}");
+}
+
+#[test]
+fn several_numbers_out_of_range() {
+    let state = played(APART, &[]);
+    let text = said(&state, "110003000000", Answer::Refused(Question::Range));
+    for want in [
+        "packet kind 0 is not from 1 to 5",
+        "sender 3 is not from 0 to 2",
+        "receiver 0 is not from 1 to 2",
+        "SN 0 is not from 1 to 60000",
+    ] {
+        assert!(text.contains(want), "{text}");
+    }
+}
+
+#[test]
+fn a_job_out_of_range() {
+    let job = "01020203010305000200FF";
+    let text = said(&State::new(), job, Answer::Refused(Question::Range));
+    for want in [
+        "machine 1: buddy 3 is not from 0 to 2",
+        "chare 1: machine 3 is not from 1 to 2",
+        "chare 1: port 5 is not from 0 to 2",
+        "chare 2: port 255 is not from 0 to 2",
+    ] {
+        assert!(text.contains(want), "{text}");
+    }
+}
+
+#[test]
+fn every_reason_for_a_crash_without_cover() {
+    let state = played("010303000000010000020000030000", &[]);
+    let mut down = state.clone();
+    down.world.phases[1] = Phase::Down;
+    let mut catching = state.clone();
+    catching.world.phases[1] = Phase::CatchingUp;
+    let mut bare = state.clone();
+    bare.world.backups[0].has_copy = false;
+    for (state, crash, want) in [
+        (&down, "1401", "machine 2 is down"),
+        (&catching, "1401", "machine 2 is catching up"),
+        (&catching, "1402", "it is catching up itself"),
+        (
+            &bare,
+            "1401",
+            "machine 2, the buddy, does not hold its copy",
+        ),
+    ] {
+        let text = said(state, crash, Answer::Lost);
+        assert!(text.contains(&format!("without cover: {want}.")), "{text}");
+    }
+}
