@@ -27,14 +27,21 @@ memory-view m = record {
   window = λ s. bits (as-map 0 (m .window) s);
   top = m .top;
   table = table.entries (m .table);
-  log = log.entries (m .log) }
+  log = log.entries (m .log);
+}
 
 -- what stands past the end of an array
 abbrev pub no-memory : Memory
 no-memory = record {
-  state = 0; height = 0; top = 0; sn = []; mark = []; window = [];
+  state = 0;
+  height = 0;
+  top = 0;
+  sn = [];
+  mark = [];
+  window = [];
   table = record { len = 0; items = [] };
-  log = record { len = 0; items = [] } }
+  log = record { len = 0; items = [] };
+}
 
 abbrev pub no-machine : Machine
 no-machine = record { status = Up; held = false }
@@ -64,4 +71,5 @@ view s = record {
   held = helds (s .machines);
   copy = memories (s .copy);
   notes = note-lists (s .notes);
-  wire = wire.packets (s .wire) }
+  wire = wire.packets (s .wire);
+}
