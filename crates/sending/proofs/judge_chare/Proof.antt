@@ -1,0 +1,107 @@
+-- `judge_chare`: the questions 2 to 5 in order.
+use mathlib.Core.Path.{_≡_, sym, _∙_}
+use mathlib.Core.List.{[], _∷_}
+use native.Mathlib.Omega.{arith}
+use borrow.Author.Needs.{needs}
+use borrow.Author.Tests.{eq-eqb, ne-eqb}
+use Rattle.arrays.specs.ArrayMap.{as-map}
+use Rattle.protocol.specs.Parts.{up}
+use Rattle.protocol.specs.Questions.{is-chare}
+use Rattle.layout.specs.View.{layout-view}
+use Rattle.layout.specs.ViewLaws.{home-top}
+use Rattle.state.specs.View.{view, statuses}
+use Rattle.sending.specs.Verdict.{verdict, was-false, was-true}
+use Rattle.sending.specs.Works.{chare-questions}
+use Rattle.sending.proofs.judge_chare.Statement.{statement}
+use Rattle.sending.proofs.judge_chare.Tie as tie
+use Rattle.sending.proofs.judge_chare.Reads as reads
+use Rattle.sending.proofs.judge_chare.Lts as lts
+use Rattle.layout.proofs.home.Reads as home-reads
+use Rattle.layout.proofs.is_chare.Reads as is-chare-reads
+use Rattle.sending.proofs.is_down.Reads as is-down-reads
+
+returns : tie.Need-returns
+unfolding verdict chare-questions view layout-view
+returns c = let a = c .before .before .before .args in rw (was-false (a .t1 .layout .set) (c .if1 .taken))
+
+is-chare-requires : tie.Need-is-chare-requires
+is-chare-requires c κs = search needs
+
+returns-2 : tie.Need-returns-2
+unfolding verdict chare-questions view layout-view is-chare
+returns-2 c =
+    let i = c .before in
+    let a = i .before .before .before .before .args in
+    rw (was-true (a .t1 .layout .set) (i .before .if1 .left), sym (i .is-chare .ensures) ∙ was-false (i .is-chare .result) (c .if2 .taken))
+
+returns-3 : tie.Need-returns-3
+unfolding verdict chare-questions view layout-view is-chare
+returns-3 c =
+    let i = c .before .before in
+    let a = i .before .before .before .before .args in
+    rw (was-true (a .t1 .layout .set) (i .before .if1 .left), sym (i .is-chare .ensures) ∙ was-true (i .is-chare .result) (c .before .if2 .left), c .if3 .taken)
+
+-- 2 to 4 passed
+passed : (c : tie.Else3) → let a = c .before .before .before .before .before .before .args in
+    verdict 5 (up (view (a .t1)) (view (a .t1) .job .home (a .chare)) ∷ []) ≡ verdict 2 (chare-questions (view (a .t1)) (a .chare))
+unfolding verdict chare-questions view layout-view is-chare
+passed c =
+    let i = c .before .before in
+    let a = i .before .before .before .before .args in
+    rw (was-true (a .t1 .layout .set) (i .before .if1 .left), sym (i .is-chare .ensures) ∙ was-true (i .is-chare .result) (c .before .if2 .left), c .if3 .left)
+
+home-requires : tie.Need-home-requires
+home-requires c κs = search needs
+
+returns-4 : tie.Need-returns-4
+unfolding verdict view up
+returns-4 c =
+    let h = c .before in
+    let a = h .before .before .before .before .before .before .before .args in
+    rw (← passed (h .before), eq-eqb (view (a .t1) .job .home (a .chare)) 0 (sym (h .home .ensures) ∙ c .if4 .taken))
+
+cast-p : tie.Need-cast-p
+cast-p c = search needs
+
+mul-m : tie.Need-mul-m
+mul-m c = search needs
+
+element-copy-out-m : tie.Need-element-copy-out-m
+element-copy-out-m c =
+    let h = c .before in
+    let a = h .before .before .before .before .before .before .before .args in
+    omega (arith, h .home .ensures, home-top (a .t1 .layout) (a .chare))
+
+is-down-requires : tie.Need-is-down-requires
+is-down-requires c κs = search needs
+
+returns-5 : tie.Need-returns-5
+unfolding verdict view up statuses as-map
+returns-5 c =
+    let d = c .before in
+    let h = d .before .before .before in
+    rw (← passed (h .before), ← h .home .ensures, ne-eqb (h .home .result) 0 (d .before .before .if4 .left), ← d .is-down .ensures, c .if5 .taken)
+
+returns-6 : tie.Need-returns-6
+unfolding verdict view up statuses as-map
+returns-6 c =
+    let d = c .before in
+    let h = d .before .before .before in
+    rw (← passed (h .before), ← h .home .ensures, ne-eqb (h .home .result) 0 (d .before .before .if4 .left), ← d .is-down .ensures, c .if5 .left)
+
+pub judge-chare-spec : {M : Type 1} → statement M
+judge-chare-spec =
+    tie.close
+    (tie.spec
+    returns
+    is-chare-requires
+    returns-2
+    returns-3
+    home-requires
+    returns-4
+    cast-p
+    mul-m
+    element-copy-out-m
+    is-down-requires
+    returns-5
+    returns-6)

@@ -1,0 +1,28 @@
+use Rattle.sending.specs.PlacedView.{second-view}
+use Rattle.layout.specs.View.{layout-view}
+use borrow.Author.Needs.{needs}
+use Rattle.sending.proofs.second_plan.Statement.{statement}
+use Rattle.sending.proofs.second_plan.Tie as tie
+use Rattle.sending.proofs.second_plan.Reads as reads
+use Rattle.sending.proofs.second_plan.Lts as lts
+use Rattle.layout.proofs.is_local.Reads as is-local-reads
+use Rattle.sending.proofs.memory_of.Reads as memory-of-reads
+use Rattle.sending.proofs.plan_next.Reads as plan-next-reads
+
+memory-of-requires : tie.Need-memory-of-requires
+memory-of-requires c κs = search needs
+
+is-local-requires : tie.Need-is-local-requires
+is-local-requires c κs = search needs
+
+plan-next-requires : tie.Need-plan-next-requires
+plan-next-requires c κs = search needs
+
+returns : tie.Need-returns
+returns c low =
+    let a = c .before .before .before .args in
+    rw (c .plan-next .ensures low, c .before .is-local .ensures, c .before .before .memory-of .ensures) (second-view (layout-view (a .l)) (a .x) (a .z) (a .a) (a .b) (a .k) (a .d))
+
+pub second-plan-spec : {M : Type 1} → statement M
+second-plan-spec =
+    tie.close (tie.spec memory-of-requires is-local-requires plan-next-requires returns)

@@ -1,0 +1,23 @@
+-- What the contracts of sending say.
+pub mod Ticket
+pub mod Sent
+pub mod SentLaws
+pub mod Plan
+pub mod PlanLaws
+pub mod NextTn
+pub mod Entries
+pub mod AfterLaws
+pub mod SecondLaws
+pub mod Verdict
+pub mod Sends
+pub mod Sendable
+pub mod Room
+pub mod Store
+pub mod Inject
+pub mod Placed
+pub mod Works
+pub mod Tried
+pub mod WorkLaws
+pub mod NextEntry
+pub mod PlacedView
+pub mod EntryWorked

@@ -1,0 +1,35 @@
+-- The sends of a chare a whose memory is to be x: judged by x and the receivers' memories before it is put into the state.
+use mathlib.Core.Path.{_≡_, refl, ap}
+use mathlib.Core.Bool.{true, cond}
+use Prim.Native.Nat.{ℕ, _<_}
+use borrow.Author.Tests.{ltb-true}
+use lib.Dec.{eqb, ltb}
+use Rattle.lists.specs.Tests.{either, true-not-false}
+use Rattle.lists.specs.Map.{upd, upd-same}
+use Rattle.protocol.specs.Parts.{State, Job, Memory, with-memory}
+use Rattle.protocol.specs.Sending.{is-local}
+use Rattle.sending.specs.declared.Ticket.{Ticket}
+use Rattle.sending.specs.declared.Plan.{Plan}
+use Rattle.sending.specs.Ticket.{fits}
+use Rattle.sending.specs.Plan.{idle, plan-for, plan-on, plan-next, plan-of, plan-after}
+
+-- y is what b holds before x is put there
+unfoldable pub first-plan : Job → Memory → Memory → ℕ → ℕ → Plan
+first-plan j x y a b = plan-on (is-local j a b) x (cond (eqb b a) x y) a b
+
+unfoldable pub second-plan : Job → Memory → Memory → ℕ → ℕ → Ticket → ℕ → Plan
+second-plan j x z a b k d = plan-next (is-local j a d) x (cond (eqb d a) x z) a b k d
+
+-- what fits has a low SN
+pub fits-low : (j : Job) (x y : Memory) (a b : ℕ) → fits (first-plan j x y a b .ticket) ≡ true → x .sn b < 60000
+unfolding first-plan plan-for fits idle
+fits-low j x y a b f = either (ltb (x .sn b) 60000) (λ e. ltb-true (x .sn b) 60000 e) (λ e. true-not-false (rw e at f) refl)
+
+module _ (s : State) (x : Memory) (a b : ℕ) where
+  pub first-is : plan-of (with-memory s a x) a b ≡ first-plan (s .job) x (s .live b) a b
+  unfolding plan-of first-plan upd
+  first-is = ap (λ (m : Memory). plan-on (is-local (s .job) a b) m (cond (eqb b a) x (s .live b)) a b) (upd-same a x (s .live))
+
+  pub second-is : (k : Ticket) (d : ℕ) → plan-after (with-memory s a x) a b k d ≡ second-plan (s .job) x (s .live d) a b k d
+  unfolding plan-after second-plan upd
+  second-is k d = ap (λ (m : Memory). plan-next (is-local (s .job) a d) m (cond (eqb d a) x (s .live d)) a b k d) (upd-same a x (s .live))

@@ -1,0 +1,69 @@
+-- The sends of a chare a whose memory is to be x, as the code judges and makes them.
+use mathlib.Core.Path.{_≡_, sym, ap, subst, _∙_}
+use mathlib.Core.Bool.{true}
+use mathlib.Core.List.{List, [], _∷_}
+use Prim.Native.Nat.{ℕ, _<_}
+use lib.ListN.{length}
+use Rattle.lists.specs.Map.{upd-same}
+use Rattle.protocol.specs.declared.Answer.the-variants.{Accepted, Refused}
+use Rattle.protocol.specs.Parts as parts
+use Rattle.protocol.specs.Parts.{with-memory}
+use Rattle.protocol.specs.Sending.{send, send-all}
+use Rattle.sending.specs.declared.Ticket.{Ticket}
+use Rattle.sending.specs.declared.Plan.{Plan}
+use Rattle.sending.specs.Ticket.{fits}
+use Rattle.sending.specs.Plan.{plan-of, plan-after}
+use Rattle.sending.specs.Sends.{one-verdict, two-verdict, two-same, sends-questions, tried-sends, one-judged, two-judged}
+use Rattle.sending.specs.Sendable.{Sendable, one-sendable, first-sendable, second-sendable, plan-fits}
+use Rattle.sending.specs.Placed.{first-plan, second-plan, fits-low, first-is, second-is}
+use Rattle.sending.specs.Verdict.{verdict, judged-no, judged-yes}
+
+-- ---- what the verdict n says
+module _ (s w : parts.State) (a : ℕ) (l : List ℕ) (v h n : ℕ) (said : verdict 7 (sends-questions w a l v h) ≡ n) where
+  pub sends-refused : (n ≡ 0 → ⊥) → record { state = s; answer = Refused n } ≡ tried-sends s w a l v h
+  unfolding tried-sends
+  sends-refused f = sym (judged-no s 7 (sends-questions w a l v h) _ (λ e. f (sym said ∙ e)) ∙ rw said)
+
+  pub sends-made : n ≡ 0 → (t : parts.State) → t ≡ send-all w a l v h → record { state = t; answer = Accepted } ≡ tried-sends s w a l v h
+  unfolding tried-sends
+  sends-made e t f = rw f (sym (judged-yes s 6 (sends-questions w a l v h) _ (said ∙ e)))
+
+-- ---- the plan p of a send, with the lengths of the sender's log and of the wire
+module _ (s : parts.State) (x : parts.Memory) (a b v h : ℕ) (p : Plan) (p-is : p ≡ first-plan (s .job) x (s .live b) a b) where
+  p-of : plan-of (with-memory s a x) a b ≡ p
+  p-of = first-is s x a b ∙ sym p-is
+
+  log-of : (log : ℕ) → log ≡ length (x .log) → length (with-memory s a x .live a .log) ≡ log
+  log-of log l = ap (λ (m : parts.Memory). length (m .log)) (upd-same a x (s .live)) ∙ sym l
+
+  pub one-said : (log wire n : ℕ) → log ≡ length (x .log) → wire ≡ length (s .wire) → n ≡ one-verdict p log wire
+      → verdict 7 (sends-questions (with-memory s a x) a (b ∷ []) v h) ≡ n
+  one-said log wire n l w e = one-judged (with-memory s a x) a b v h ∙ cc (p-of, log-of log l)
+
+  pub one-ready : verdict 7 (sends-questions (with-memory s a x) a (b ∷ []) v h) ≡ 0 → Sendable (with-memory s a x) a b v h (p .ticket)
+  one-ready e = subst (λ (o : Plan). Sendable (with-memory s a x) a b v h (o .ticket)) p-of (one-sendable (with-memory s a x) a b v h e)
+
+  -- and the plan q of a second one
+  module _ (d : ℕ) (q : Plan) (q-is : x .sn b < 60000 → q ≡ second-plan (s .job) x (s .live d) a b (p .ticket) d) where
+    q-after : fits (p .ticket) ≡ true → q ≡ plan-after (with-memory s a x) a b (p .ticket) d
+    q-after f = q-is (fits-low (s .job) x (s .live b) a b (subst (λ (o : Plan). fits (o .ticket) ≡ true) p-is f)) ∙ sym (second-is s x a b (p .ticket) d)
+
+    pub two-said : (log wire n : ℕ) → log ≡ length (x .log) → wire ≡ length (s .wire) → n ≡ two-verdict p q log wire
+        → verdict 7 (sends-questions (with-memory s a x) a (b ∷ d ∷ []) v h) ≡ n
+    two-said log wire n l w e =
+        two-judged (with-memory s a x) a b v h d
+        ∙ cc (p-of, log-of log l, two-same p q (plan-after (with-memory s a x) a b (p .ticket) d) log wire q-after)
+
+    module _ (e : verdict 7 (sends-questions (with-memory s a x) a (b ∷ d ∷ []) v h) ≡ 0) where
+      pub first-ready : Sendable (with-memory s a x) a b v h (p .ticket)
+      first-ready = subst (λ (o : Plan). Sendable (with-memory s a x) a b v h (o .ticket)) p-of (first-sendable (with-memory s a x) a b v h d e)
+
+      p-fits : fits (p .ticket) ≡ true
+      p-fits = subst (λ (o : Plan). fits (o .ticket) ≡ true) p-of (plan-fits first-ready)
+
+      pub second-ready : Sendable (send (with-memory s a x) a b v h) a d v h (q .ticket)
+      second-ready = subst (λ (k : Ticket). Sendable (send (with-memory s a x) a b v h) a d v h k) (cc (p-of, q-after p-fits)) (second-sendable (with-memory s a x) a b v h d e)
+
+-- ---- a send in a state that is w
+pub sent-in : {t w u : parts.State} {a b v h : ℕ} {k : Ticket} → t ≡ w → (Sendable t a b v h k → u ≡ send t a b v h) → Sendable w a b v h k → u ≡ send w a b v h
+sent-in {t} {w} {u} {a} {b} {v} {h} {k} e f = subst (λ (y : parts.State). Sendable y a b v h k → u ≡ send y a b v h) e f

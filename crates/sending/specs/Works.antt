@@ -1,0 +1,73 @@
+-- Frame 12: what working the next TN leaves, and its questions in two parts.
+use mathlib.Core.Path.{_≡_, refl, sym, ap, _∙_}
+use mathlib.Core.Bool.{Bool, true, false, not, _&&_}
+use mathlib.Core.List.{List, [], _∷_}
+use mathlib.Core.Option.{Option, some, none}
+use Prim.Native.Nat.{ℕ, _+_, _<_, _≤_}
+use native.Mathlib.Omega.{arith}
+use borrow.Author.Tests.{le-leb}
+use lib.Dec.{leb}
+use lib.ListN.{length}
+use Rattle.lists.specs.Tests.{and-l, and-r}
+use Rattle.lists.specs.Questions.{asks, Yes}
+use Rattle.protocol.specs.declared.Entry.{Entry}
+use Rattle.protocol.specs.declared.Answer.the-variants.{Accepted, Refused}
+use Rattle.protocol.specs.Parts as parts
+use Rattle.protocol.specs.Sending.{send-all}
+use Rattle.protocol.specs.Working.{next-entry, work-entry, worked-only, work-next, value-out, hops-out, receivers-of}
+use Rattle.protocol.specs.Questions.{is-chare, mark-after, has-mark, work-questions, entry-questions, put-to-sends, put-to-all, wire-fits}
+use Rattle.protocol.specs.Step.{Outcome, judged}
+use Rattle.state.specs.declared.Memory.{Memory}
+use Rattle.state.specs.View.{memory-view}
+use Rattle.state.specs.Outcome.{tried}
+use Rattle.sending.specs.declared.Worked.{Worked}
+use Rattle.sending.specs.Sends.{sends-questions, tried-sends}
+use Rattle.sending.specs.Verdict.{verdict, stopped, passed, part-stopped, part-passed}
+
+-- the state after a work: with no next entry it stays
+unfoldable pub worked-state : parts.State → ℕ → Option Entry → parts.State
+worked-state s c none = s
+worked-state s c (some e) = work-next s c e
+
+-- 2 to 5
+unfoldable pub chare-questions : parts.State → ℕ → List Bool
+chare-questions s c = s .job .set ∷ is-chare s c ∷ not (s .lost) ∷ parts.up s (s .job .home c) ∷ []
+
+-- 6 to 11
+unfoldable pub tried-work : parts.State → ℕ → Option Entry → Outcome
+tried-work s c o = judged s (asks 6 (entry-questions s c o) (record { state = worked-state s c o; answer = Accepted }))
+
+-- 6, and 7 of the chare that works
+unfoldable pub own-questions : parts.Memory → Entry → List Bool
+own-questions m e = (has-mark e && (e .received && e .noted)) ∷ (leb (m .height + 1) 60000 && leb (mark-after m e) 60000) ∷ []
+
+pub record WorkedAs (m : parts.Memory) (e : Entry) (r : Worked) : Type 0 where
+  pub answer : r .answer ≡ verdict 6 (own-questions m e)
+  pub memory : r .answer ≡ 0 → memory-view (r .memory) ≡ work-entry m e
+
+module _ (s : parts.State) (c : ℕ) where
+  pub work-tried : verdict 2 (chare-questions s c) ≡ 0 → tried s (work-questions s c) (worked-state s c (next-entry (s .live c))) ≡ tried-work s c (next-entry (s .live c))
+  unfolding tried tried-work work-questions chare-questions
+  work-tried e = passed s (entry-questions s c (next-entry (s .live c))) _ 1 (chare-questions s c) e
+
+  pub work-refused : (verdict 2 (chare-questions s c) ≡ 0 → ⊥) → (t : parts.State) → tried s (work-questions s c) t ≡ record { state = s; answer = Refused (verdict 2 (chare-questions s c)) }
+  unfolding tried work-questions chare-questions
+  work-refused h t = stopped s (entry-questions s c (next-entry (s .live c))) _ 2 (chare-questions s c) h
+
+  pub none-refused : tried-work s c none ≡ record { state = s; answer = Refused 6 }
+  unfolding tried-work entry-questions asks judged
+  none-refused = refl
+
+  module _ (e : Entry) where
+    pub own-refused : (verdict 6 (own-questions (s .live c) e) ≡ 0 → ⊥) → tried-work s c (some e) ≡ record { state = s; answer = Refused (verdict 6 (own-questions (s .live c) e)) }
+    unfolding tried-work entry-questions own-questions
+    own-refused h = part-stopped s _ _ 6 (has-mark e && (e .received && e .noted)) (leb (s .live c .height + 1) 60000) (leb (mark-after (s .live c) e) 60000) _ h
+
+    pub own-passed : verdict 6 (own-questions (s .live c) e) ≡ 0 → tried-work s c (some e) ≡ tried-sends s (worked-only s c e) c (receivers-of s c e) (value-out s c e) (hops-out e)
+    unfolding tried-work tried-sends entry-questions own-questions worked-state work-next put-to-sends sends-questions
+    own-passed h = part-passed s _ _ 5 (has-mark e && (e .received && e .noted)) (leb (s .live c .height + 1) 60000) (leb (mark-after (s .live c) e) 60000) _ h
+
+-- no sends: the message is worked
+pub none-sent : (s w : parts.State) (a v h : ℕ) → length (w .wire) ≤ 128 → tried-sends s w a [] v h ≡ record { state = w; answer = Accepted }
+unfolding tried-sends sends-questions put-to-all send-all wire-fits asks judged
+none-sent s w a v h r = rw (le-leb (length (w .wire)) 128 r)
