@@ -25,8 +25,8 @@ with-reply s p none = s
 with-reply s p (some c) = reply s p c
 
 -- an effect on the memory of chare c, put back
-unfoldable pub put-back : State → ℕ → Packet → Effect → State
-put-back s c p e = with-reply (with-memory s c (e .memory)) p (e .reply)
+unfoldable pub put-effect : State → ℕ → Packet → Effect → State
+put-effect s c p e = with-reply (with-memory s c (e .memory)) p (e .reply)
 
 -- a note list for machine h, put back
 unfoldable pub put-notes : State → ℕ → Packet → List Note → State
@@ -37,49 +37,49 @@ module _ (s : State) (c : ℕ) (p : Packet) where
   same-memory : s ≡ with-memory s c (s .live c)
   same-memory = sym (ap (with-live s) (upd-self c (s .live)))
 
-  put-quiet : s ≡ put-back s c p (quiet (s .live c))
-  unfolding put-back with-reply
+  put-quiet : s ≡ put-effect s c p (quiet (s .live c))
+  unfolding put-effect with-reply
   put-quiet = same-memory
 
-  put-answer : (x : Content) → reply s p x ≡ put-back s c p (answering (s .live c) x)
-  unfolding put-back with-reply
+  put-answer : (x : Content) → reply s p x ≡ put-effect s c p (answering (s .live c) x)
+  unfolding put-effect with-reply
   put-answer x = ap (λ t. reply t p x) same-memory
 
 -- ---- each content
 module _ (s : State) (p : Packet) where
-  asks-back : (o : Option Entry) (w : Bool) → ask s p o w ≡ put-back s (p .receiver) p (ask-effect (s .live (p .receiver)) (p .sender) (p .sn) o w)
+  asks-back : (o : Option Entry) (w : Bool) → ask s p o w ≡ put-effect s (p .receiver) p (ask-effect (s .live (p .receiver)) (p .sender) (p .sn) o w)
   unfolding ask ask-effect grant-of
   asks-back (some e) w = put-answer s (p .receiver) p _
   asks-back none true = put-answer s (p .receiver) p _
-  asks-back none false = unfold new-ticket new-table put-back with-reply in refl
+  asks-back none false = unfold new-ticket new-table put-effect with-reply in refl
 
   -- a GRANT: what it does to a message without a TN is given
-  old-back : (o : Lookup) → grant-old s p o ≡ put-back s (p .sender) p (unticketed (quiet (s .live (p .sender))) (λ x. quiet (with-log (s .live (p .sender)) (remove1 (for-receiver (p .receiver) (p .sn)) (s .live (p .sender) .log)))) o)
+  old-back : (o : Lookup) → grant-old s p o ≡ put-effect s (p .sender) p (unticketed (quiet (s .live (p .sender))) (λ x. quiet (with-log (s .live (p .sender)) (remove1 (for-receiver (p .receiver) (p .sn)) (s .live (p .sender) .log)))) o)
   unfolding grant-old unticketed
   old-back Missing = put-quiet s (p .sender) p
   old-back Ticketed = put-quiet s (p .sender) p
-  old-back (Unticketed x) = unfold new-log put-back with-reply in refl
+  old-back (Unticketed x) = unfold new-log put-effect with-reply in refl
 
-  received-back : (t : ℕ) (o : Lookup) → grant-received s p t o ≡ put-back s (p .sender) p (unticketed (quiet (s .live (p .sender))) (λ x. quiet (with-log (s .live (p .sender)) (ticketed (p .receiver) (p .sn) t (s .live (p .sender) .log)))) o)
+  received-back : (t : ℕ) (o : Lookup) → grant-received s p t o ≡ put-effect s (p .sender) p (unticketed (quiet (s .live (p .sender))) (λ x. quiet (with-log (s .live (p .sender)) (ticketed (p .receiver) (p .sn) t (s .live (p .sender) .log)))) o)
   unfolding grant-received unticketed
   received-back t Missing = put-quiet s (p .sender) p
   received-back t Ticketed = put-quiet s (p .sender) p
-  received-back t (Unticketed x) = unfold new-log put-back with-reply in refl
+  received-back t (Unticketed x) = unfold new-log put-effect with-reply in refl
 
-  new-back : (t : ℕ) (o : Lookup) → grant-new s p t o ≡ put-back s (p .sender) p (unticketed (quiet (s .live (p .sender))) (λ x. answering (with-log (s .live (p .sender)) (ticketed (p .receiver) (p .sn) t (s .live (p .sender) .log))) (DATA (x .value) (x .hops))) o)
+  new-back : (t : ℕ) (o : Lookup) → grant-new s p t o ≡ put-effect s (p .sender) p (unticketed (quiet (s .live (p .sender))) (λ x. answering (with-log (s .live (p .sender)) (ticketed (p .receiver) (p .sn) t (s .live (p .sender) .log))) (DATA (x .value) (x .hops))) o)
   unfolding grant-new unticketed
   new-back t Missing = put-quiet s (p .sender) p
   new-back t Ticketed = put-quiet s (p .sender) p
-  new-back t (Unticketed x) = unfold grant-received new-log put-back with-reply in refl
+  new-back t (Unticketed x) = unfold grant-received new-log put-effect with-reply in refl
 
-  data-back : (v h : ℕ) (o : Option Entry) → data-in s p v h o ≡ put-back s (p .receiver) p (data-effect (s .live (p .receiver)) (p .sender) (p .sn) v h o)
+  data-back : (v h : ℕ) (o : Option Entry) → data-in s p v h o ≡ put-effect s (p .receiver) p (data-effect (s .live (p .receiver)) (p .sender) (p .sn) v h o)
   unfolding data-in data-effect
   data-back v h none = put-quiet s (p .receiver) p
   data-back v h (some e) = either (e .received)
       (λ q. rw q (put-quiet s (p .receiver) p))
-      (λ q. rw q (unfold new-table put-back with-reply in refl))
+      (λ q. rw q (unfold new-table put-effect with-reply in refl))
 
-  pub arrive-back : (c : Content) → ((t : ℕ) → c ≡ NOTE t → ⊥) → arrive s p c ≡ put-back s (place-of p c) p (effect (s .live (place-of p c)) p c)
+  pub arrive-back : (c : Content) → ((t : ℕ) → c ≡ NOTE t → ⊥) → arrive s p c ≡ put-effect s (place-of p c) p (effect (s .live (place-of p c)) p c)
   unfolding arrive effect place-of kind entry-of lookup-of
   arrive-back ASK n = asks-back _ _
   arrive-back GRANT-old n = unfold grant-old-effect in old-back _
@@ -87,7 +87,7 @@ module _ (s : State) (p : Packet) where
   arrive-back (GRANT-new t) n = unfold grant-new-effect in new-back t _
   arrive-back (DATA v h) n = data-back v h _
   arrive-back (NOTE t) n = absurd (n t refl)
-  arrive-back ACK n = unfold ack ack-effect new-table put-back with-reply in refl
+  arrive-back ACK n = unfold ack ack-effect new-table put-effect with-reply in refl
 
   pub arrive-notes : (t : ℕ) → arrive s p (NOTE t) ≡ put-notes s (s .job .home (p .receiver)) p (note-effect (s .notes (s .job .home (p .receiver))) (note-of p t))
   unfolding arrive note put-notes note-effect

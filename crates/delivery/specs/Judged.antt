@@ -17,7 +17,7 @@ use Rattle.state.specs.Outcome.{tried}
 use Rattle.delivery.specs.More.{first-no, first-no-yes, after, asks-no, asks-after, then, asks-then}
 use Rattle.delivery.specs.Effect.{effect, effect-questions, place-of}
 use Rattle.delivery.specs.NoteEffect.{note-effect, note-questions}
-use Rattle.delivery.specs.Arrival.{put-back, put-notes, ticket-questions, arrive-back, arrive-notes, arrive-questioned, notes-questioned}
+use Rattle.delivery.specs.Arrival.{put-effect, put-notes, ticket-questions, arrive-back, arrive-notes, arrive-questioned, notes-questioned}
 use Rattle.delivery.specs.Frame.{is-up, in-range, first-questions, delivered}
 
 -- the outcome of a frame with every question answered "yes"
@@ -73,10 +73,10 @@ module _ (s : State) (k a r n : ℕ) where
 
       -- the memory of a chare
       module _ (other : (t : ℕ) → p .content ≡ NOTE t → ⊥) where
-        pub judged-chare : judged s (then (λ e. done (put-back taken-out (place-of p (p .content)) p e))
+        pub judged-chare : judged s (then (λ e. done (put-effect taken-out (place-of p (p .content)) p e))
             (asks 7 (effect-questions (s .live (place-of p (p .content))) p (p .content)) (effect (s .live (place-of p (p .content))) p (p .content)))) ≡ the-outcome
         unfolding deliver
-        judged-chare = by-part (put-back taken-out (place-of p (p .content)) p) _ _ (arrive-questioned s p (p .content) other) (arrive-back taken-out p (p .content) other)
+        judged-chare = by-part (put-effect taken-out (place-of p (p .content)) p) _ _ (arrive-questioned s p (p .content) other) (arrive-back taken-out p (p .content) other)
 
       -- the note list of the receiver's machine
       module _ {t : ℕ} (is-note : p .content ≡ NOTE t) where

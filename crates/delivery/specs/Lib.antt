@@ -8,5 +8,6 @@ pub mod Arrival
 pub mod Frame
 pub mod FrameLaws
 pub mod Judged
+pub mod Handled
 pub mod Named
 pub mod Delivered

@@ -1,16 +1,15 @@
--- The packet found has the frame's name, so the numbers in it are in range; and once it has left, the wire has room for an answer.
+-- The packet found has the frame's name, so its place is the frame's; and once it has left, the wire has room for an answer.
 use mathlib.Core.Path.{_≡_}
 use mathlib.Core.Bool.{Bool, true, cond}
 use mathlib.Core.Option.{some}
 use Prim.Native.Nat.{ℕ, _≤_, _<_, min}
 use native.Mathlib.Omega.{arith}
-use borrow.Author.Tests.{eqb-true, leb-true}
-use lib.Dec.{eqb, leb}
+use borrow.Author.Tests.{eqb-true, ltb-true, leb-true, lt-ltb}
+use lib.Dec.{eqb, ltb, leb}
 use lib.ListN.{length, length-take}
 use Rattle.lists.specs.Tests.{and-r, and4, split}
 use Rattle.lists.specs.Lists.{find, remove1}
 use Rattle.protocol.specs.declared.Packet.{Packet}
-use Rattle.protocol.specs.declared.Content.{Content}
 use Rattle.protocol.specs.Parts.{Job}
 use Rattle.protocol.specs.Frames.{between}
 use Rattle.protocol.specs.Packets.{kind, is-named}
@@ -22,25 +21,32 @@ use Rattle.wire.specs.View.{packets}
 use Rattle.delivery.specs.More.{remove1-length}
 use Rattle.delivery.specs.Effect.{place-of}
 use Rattle.delivery.specs.Frame.{in-range}
+use Rattle.delivery.specs.Handled.{place-index}
 
-module _ (j : Job) (k a r n : ℕ) (p : Packet) (range : in-range j k a r n ≡ true) (named : is-named k a r n p ≡ true) (top : j .chares ≤ 12) where
-  sender-small : p .sender < 13
-  unfolding in-range is-named
-  sender-small =
+-- an index for any numbers
+pub place-top : (k a r : ℕ) → place-index k a r < 13
+unfolding place-index
+place-top k a r =
+    let c = cond (eqb k 2) a r in
+    split (λ b. cond b c 0 < 13) (ltb c 13) (λ e. ltb-true c 13 e) (λ _. omega arith)
+
+module _ (k a r n : ℕ) (p : Packet) (named : is-named k a r n p ≡ true) where
+  pub receiver-named : r ≡ p .receiver
+  unfolding is-named
+  receiver-named =
+      let g = and4 (eqb (kind (p .content)) k) (eqb (p .sender) a) (eqb (p .receiver) r) (eqb (p .sn) n) named in
+      omega (arith, eqb-true (p .receiver) r (g .2))
+
+  -- both numbers in range are indices
+  pub place-named : (j : Job) → j .chares ≤ 12 → in-range j k a r n ≡ true → place-index k a r ≡ place-of p (p .content)
+  unfolding is-named in-range between place-index place-of
+  place-named j top range =
       let f = and4 (between 1 5 k) (leb a (j .chares)) (between 1 (j .chares) r) (between 1 60000 n) range in
       let g = and4 (eqb (kind (p .content)) k) (eqb (p .sender) a) (eqb (p .receiver) r) (eqb (p .sn) n) named in
-      omega (arith, leb-true a (j .chares) (f .1), eqb-true (p .sender) a (g .1))
-
-  receiver-small : p .receiver < 13
-  unfolding in-range is-named between
-  receiver-small =
-      let f = and4 (between 1 5 k) (leb a (j .chares)) (between 1 (j .chares) r) (between 1 60000 n) range in
-      let g = and4 (eqb (kind (p .content)) k) (eqb (p .sender) a) (eqb (p .receiver) r) (eqb (p .sn) n) named in
-      omega (arith, leb-true r (j .chares) (and-r (leb 1 r) _ (f .2)), eqb-true (p .receiver) r (g .2))
-
-  pub place-small : (c : Content) → place-of p c < 13
-  unfolding place-of
-  place-small c = split (λ b. cond b (p .sender) (p .receiver) < 13) (eqb (kind c) 2) (λ _. sender-small) (λ _. receiver-small)
+      let x : a < 13 = omega (arith, leb-true a (j .chares) (f .1)) in
+      let y : r < 13 = omega (arith, leb-true r (j .chares) (and-r (leb 1 r) _ (f .2))) in
+      rw (eqb-true (kind (p .content)) k (g .0), eqb-true (p .sender) a (g .1), eqb-true (p .receiver) r (g .2))
+      (split (λ b. cond (ltb (cond b a r) 13) (cond b a r) 0 ≡ cond b a r) (eqb k 2) (λ _. rw (lt-ltb a 13 x)) (λ _. rw (lt-ltb r 13 y)))
 
 pub packet-room : (w : Wire) (q : Packet → Bool) {p : Packet} → find q (packets w) ≡ some p → length (remove1 q (packets w)) < 128
 unfolding packets

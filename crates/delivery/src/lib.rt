@@ -11,10 +11,10 @@ ghost use Rattle.wire.specs.View.{packets};
 ghost use Rattle.state.specs.View.{statuses, view};
 ghost use Rattle.state.specs.Outcome.{outcome-view, tried};
 ghost use Rattle.delivery.specs.More.{first-no};
-ghost use Rattle.delivery.specs.Effect.{place-of};
 ghost use Rattle.delivery.specs.NoteEffect.{note-effect, note-questions};
-ghost use Rattle.delivery.specs.View.{note-arrived, answered, refused, accepted};
+ghost use Rattle.delivery.specs.View.{note-arrived, answered, refused};
 ghost use Rattle.delivery.specs.Frame.{is-up, in-range, first-questions, delivered};
+ghost use Rattle.delivery.specs.Handled.{place-index, Handles};
 use chare::Reply;
 use layout::Layout;
 use notes::Notes;
@@ -24,6 +24,7 @@ use protocol::Note;
 use protocol::Packet;
 use protocol::Status;
 use state::Machine;
+use state::Memory;
 use state::State;
 use state::Stepped;
 use wire::Taken;
@@ -63,15 +64,12 @@ fn note(l: Notes, p: Packet, tn: u16) -> NoteArrived
     }
 }
 
-// The chare whose memory a packet is for: of a GRANT the sender, of others the receiver.
-fn place(p: Packet) -> u8
-    ensures { λ r. ⌜ r ≡ place-of p (p .content) ⌝ }
+// The chare whose memory a packet is for, as an index: of a GRANT the sender, of others the receiver. Where there is no such chare, 0.
+pub fn place(kind: u8, sender: u8, receiver: u8) -> usize
+    ensures { λ r. ⌜ r ≡ place-index kind sender receiver ⌝ }
 {
-    let c = p.content;
-    if wire::kind(c) == 2 {
-        return p.sender;
-    }
-    p.receiver
+    let c = if kind == 2 { sender } else { receiver };
+    if c < 13 { c as usize } else { 0 }
 }
 
 // The wire with an answer under the packet's own name.
@@ -160,65 +158,98 @@ fn judge(
     0
 }
 
-fn refused(s: State, no: u8) -> Stepped
-    ensures { λ r. ⌜ r ≡ refused s no ⌝ }
+// What a delivery leaves of the parts of the state that it may change. A refused one leaves them as they were.
+pub struct Handled {
+    pub answer: Answer,
+    pub memory: Memory,
+    pub notes: Notes,
+    pub wire: Wire,
+}
+
+fn refused(no: u8, memory: Memory, notes: Notes, wire: Wire) -> Handled
+    ensures { λ r. ⌜ r ≡ refused no memory notes wire ⌝ }
 {
-    Stepped {
-        state: s,
+    Handled {
         answer: Answer::Refused(no),
+        memory,
+        notes,
+        wire,
     }
 }
 
-fn accepted(s: State) -> Stepped
-    ensures { λ r. ⌜ r ≡ accepted s ⌝ }
-{
-    Stepped {
-        state: s,
-        answer: Answer::Accepted,
-    }
-}
-
+// A delivery, by the parts of the state: the memory of the chare at `place`, the note list for the receiver's machine, and the wire.
 // A delivery refused leaves the packet on the wire; one accepted takes it off before an answer is put on.
+pub fn handle(
+    layout: Layout,
+    lost: bool,
+    machines: [Machine; 7],
+    memory: Memory,
+    notes: Notes,
+    wire: Wire,
+    kind: u8,
+    sender: u8,
+    receiver: u8,
+    sn: u16,
+) -> Handled
+    ensures { λ r. ⌜ Handles layout lost machines memory notes wire kind sender receiver sn r ⌝ }
+{
+    let no = judge(layout, lost, machines, kind, sender, receiver, sn);
+    if no != 0 {
+        return refused(no, memory, notes, wire);
+    }
+    let d = wire::take(wire, kind, sender, receiver, sn);
+    let found = d.found;
+    let Taken::Got(p) = found else {
+        return refused(6, memory, notes, wire);
+    };
+    let rest = d.wire;
+    let content = p.content;
+    if let Content::Note(tn) = content {
+        let a = note(notes, p, tn);
+        if a.refusal != 0 {
+            return refused(a.refusal, memory, notes, wire);
+        }
+        let noted = a.notes;
+        return Handled {
+            answer: Answer::Accepted,
+            memory,
+            notes: noted,
+            wire: answer(rest, p, Reply::Send(Content::Ack)),
+        };
+    }
+    let a = chare::arrive(memory, p);
+    if a.refusal != 0 {
+        return refused(a.refusal, memory, notes, wire);
+    }
+    let changed = a.memory;
+    let reply = a.reply;
+    Handled {
+        answer: Answer::Accepted,
+        memory: changed,
+        notes,
+        wire: answer(rest, p, reply),
+    }
+}
+
+// Frame 11.
 pub fn deliver(s: State, kind: u8, sender: u8, receiver: u8, sn: u16) -> Stepped
     ensures { λ r. ⌜ outcome-view r ≡ tried (view s) (deliver-questions (view s) kind sender receiver sn) (delivered (view s) kind sender receiver sn (on-wire (view s) kind sender receiver sn)) ⌝ }
 {
     let l = s.layout;
     let machines = s.machines;
-    let no = judge(l, s.lost, machines, kind, sender, receiver, sn);
-    if no != 0 {
-        return refused(s, no);
-    }
-    let w = s.wire;
-    let d = wire::take(w, kind, sender, receiver, sn);
-    let found = d.found;
-    let Taken::Got(p) = found else {
-        return refused(s, 6);
-    };
-    let rest = d.wire;
-    let content = p.content;
-    if let Content::Note(tn) = content {
-        let h = layout::home(l, p.receiver) as usize;
-        let n = s.notes[h];
-        let a = note(n, p, tn);
-        if a.refusal != 0 {
-            return refused(s, a.refusal);
-        }
-        let mut t = s;
-        let noted = a.notes;
-        t.notes[h] = noted;
-        t.wire = answer(rest, p, Reply::Send(Content::Ack));
-        return accepted(t);
-    }
-    let i = place(p) as usize;
+    let i = place(kind, sender, receiver);
+    let h = layout::home(l, receiver) as usize;
     let m = s.live[i];
-    let a = chare::arrive(m, p);
-    if a.refusal != 0 {
-        return refused(s, a.refusal);
-    }
+    let n = s.notes[h];
+    let w = s.wire;
+    let r = handle(l, s.lost, machines, m, n, w, kind, sender, receiver, sn);
     let mut t = s;
-    let memory = a.memory;
-    let reply = a.reply;
+    let memory = r.memory;
+    let notes = r.notes;
+    let wire = r.wire;
+    let answer = r.answer;
     t.live[i] = memory;
-    t.wire = answer(rest, p, reply);
-    accepted(t)
+    t.notes[h] = notes;
+    t.wire = wire;
+    Stepped { state: t, answer }
 }

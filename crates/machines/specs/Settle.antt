@@ -11,13 +11,16 @@ use Rattle.arrays.specs.ArrayMap.{as-map}
 use Rattle.protocol.specs.declared.Status.{Status}
 use Rattle.protocol.specs.declared.Status.the-variants.{Up, Down, CatchingUp}
 use Rattle.protocol.specs.Parts.{State, with-status, is-down, is-catching-up, every-machine, every-chare}
-use Rattle.protocol.specs.Restart.{settle-machine}
+use Rattle.protocol.specs.Restart.{settle-machine, settle}
 use Rattle.layout.specs.declared.Layout.{Layout}
 use Rattle.layout.specs.View.{layout-view}
 use Rattle.layout.specs.Loops.{each}
 use Rattle.log.specs.Log.{has-ticket}
-use Rattle.state.specs.View.{statuses, helds}
+use Rattle.state.specs.declared.Machine.{Machine}
+use Rattle.state.specs.declared.Memory.{Memory}
+use Rattle.state.specs.View.{view, statuses, helds}
 use Rattle.machines.specs.declared.Course.{Course}
+use Rattle.state.specs.declared.State as code
 
 -- the status of a machine that is not catching up and, asked strictly, not down
 unfoldable pub calm : Bool → Status → Bool
@@ -66,6 +69,14 @@ module _ (which waits : List Bool) (heights target : List ℕ) (c : ℕ) where
 pub record Settles (l : Layout) (heights : List ℕ) (waits : List Bool) (p : ℕ) (q r : Course) : Type 0 where
   pub settled : (s : State) → layout-view l ≡ s .job → as-map 0 heights ≡ (λ c. s .live c .height) → as-map false waits ≡ (λ c. not (allb has-ticket (s .live c .log))) → at s r ≡ settle-machine (at s q) p
   pub held : helds (r .machines) ≡ helds (q .machines)
+
+-- a state of the code with the machines where q has them
+abbrev pub with-course : code.State → Course → code.State
+with-course s q = record { layout = s .layout; lost = s .lost; machines = q .machines; target = q .target; live = s .live; copy = s .copy; notes = s .notes; wire = s .wire }
+
+-- r is where the machines are after all settle, in every state with these parts
+unfoldable pub Runs : Layout → List Machine → List ℕ → List Memory → Course → Type 0
+Runs l machines target live r = (s : code.State) → s .layout ≡ l → s .machines ≡ machines → s .target ≡ target → s .live ≡ live → view (with-course s r) ≡ settle (view s)
 
 -- ---- the loops
 pub each-machine : (f : ℕ → Bool) → allb f every-machine ≡ each f 6 1

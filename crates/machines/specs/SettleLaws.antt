@@ -19,9 +19,11 @@ use Rattle.layout.specs.declared.Layout.{Layout}
 use Rattle.layout.specs.View.{layout-view}
 use Rattle.layout.specs.Loops.{allb-keep}
 use Rattle.log.specs.Log.{has-ticket}
-use Rattle.state.specs.View.{view, statuses, helds}
+use Rattle.state.specs.declared.Machine.{Machine}
+use Rattle.state.specs.declared.Memory.{Memory}
+use Rattle.state.specs.View.{view, memories, statuses, helds}
 use Rattle.machines.specs.Chosen.{chosen, home-chosen}
-use Rattle.machines.specs.Settle.{calm, calm-settled, at, passes, Settles}
+use Rattle.machines.specs.Settle.{calm, calm-settled, at, passes, Settles, Runs}
 use Rattle.machines.specs.Standing.{now, now-status, now-held}
 use Rattle.machines.specs.declared.Course.{Course}
 use Rattle.state.specs.declared.State as code
@@ -97,14 +99,14 @@ span zero k = []
 span (suc n) k = k ∷ span n (suc k)
 
 module _ (v : State) (s : State) (p : ℕ) (inv : v ≡ settle-all s (span (7 - p) p)) where
-  pub settle-more : (t : State) → p < 7 → t ≡ settle-machine s p → v ≡ settle-all t (span (7 - (p + 1)) (p + 1))
+  settle-more : (t : State) → p < 7 → t ≡ settle-machine s p → v ≡ settle-all t (span (7 - (p + 1)) (p + 1))
   unfolding settle-all span
   settle-more t h e =
       let q : 7 - p ≡ suc (7 - (p + 1)) = omega arith in
       let step : settle-all s (span (7 - p) p) ≡ settle-all (settle-machine s p) (span (7 - (p + 1)) (p + 1)) = rw (q, add-one p) in
       inv ∙ step ∙ ap (λ u. settle-all u (span (7 - (p + 1)) (p + 1))) (sym e)
 
-  pub settle-end : 7 ≤ p → s ≡ v
+  settle-end : 7 ≤ p → s ≡ v
   unfolding settle-all span
   settle-end h = let q : 7 - p ≡ 0 = omega arith in sym (inv ∙ rw q)
 
@@ -116,16 +118,40 @@ all-stay s (p ∷ l) e =
     let n = not-catching s p (calm-is (s .status p) (and-l _ _ e)) in
     subst (λ t. s ≡ settle-all t l) n (all-stay s l (and-r (calm false (s .status p)) _ e))
 
-pub settle-calm : (s : State) → allb (λ p. calm false (s .status p)) every-machine ≡ true → s ≡ settle s
+settle-calm : (s : State) → allb (λ p. calm false (s .status p)) every-machine ≡ true → s ≡ settle s
 unfolding settle
 settle-calm s e = all-stay s every-machine e
 
--- ---- the code's state
-pub settle-start : (s : code.State) → settle (view s) ≡ settle-all (at (view s) (record { machines = s .machines; target = s .target })) (span 6 1)
-unfolding settle every-machine span at view
-settle-start s = refl
+pub runs-calm : (l : Layout) (machines : List Machine) (target : List ℕ) (live : List Memory) → allb (λ p. calm false (statuses machines p)) every-machine ≡ true
+    → Runs l machines target live (record { machines = machines; target = target })
+unfolding Runs view
+runs-calm l machines target live e s el em et ev = rw (← em, ← et) (settle-calm (view s) (rw em e))
 
-pub settled-view : (s : code.State) (q : Course) → helds (q .machines) ≡ helds (s .machines)
-    → view (record { layout = s .layout; lost = s .lost; machines = q .machines; target = q .target; live = s .live; copy = s .copy; notes = s .notes; wire = s .wire }) ≡ at (view s) q
+-- with the machines where it has them itself, a state is as it was
+at-own : (s : code.State) (machines : List Machine) (target : List ℕ) → s .machines ≡ machines → s .target ≡ target → at (view s) (record { machines = machines; target = target }) ≡ view s
 unfolding at view
-settled-view s q e = rw e
+at-own s machines target em et = rw (← em, ← et)
+
+-- ---- the code's loop: q is q₀ after the machines below p settled, in every state with that layout, these heights and these logs
+module _ (l : Layout) (heights : List ℕ) (waits : List Bool) (q₀ : Course) where
+  pub record Going (p : ℕ) (q : Course) : Type 0 where
+    pub left : (s : State) → layout-view l ≡ s .job → as-map 0 heights ≡ (λ c. s .live c .height) → as-map false waits ≡ (λ c. not (allb has-ticket (s .live c .log))) → settle (at s q₀) ≡ settle-all (at s q) (span (7 - p) p)
+    pub held : helds (q .machines) ≡ helds (q₀ .machines)
+
+  pub going-start : Going 1 q₀
+  unfolding settle every-machine span
+  going-start = record { left = λ s _ _ _. refl; held = refl }
+
+  module _ (p : ℕ) (q : Course) (inv : Going p q) where
+    pub going-more : p < 7 → (r : Course) → Settles l heights waits p q r → Going (p + 1) r
+    going-more h r e = record {
+      left = λ s ej eh ew. settle-more _ _ p (inv .left s ej eh ew) _ h (e .settled s ej eh ew);
+      held = e .held ∙ inv .held;
+    }
+
+    pub going-end : 7 ≤ p → (live : List Memory) → as-map 0 heights ≡ (λ c. memories live c .height)
+        → as-map false waits ≡ (λ c. not (allb has-ticket (memories live c .log))) → Runs l (q₀ .machines) (q₀ .target) live q
+    unfolding Runs at view
+    going-end h live eh ew s el em et ev =
+        let e = settle-end _ _ p (inv .left (view s) (ap layout-view (sym el)) (rw ev eh) (rw ev ew)) h in
+        rw (inv .held ∙ ap helds (sym em)) (e ∙ ap settle (at-own s _ _ em et))

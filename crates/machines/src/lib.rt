@@ -6,7 +6,7 @@ ghost use Prim.Native.Nat.{_≤_, _<_};
 ghost use Rattle.lists.specs.Questions.{asks};
 ghost use Rattle.lists.specs.Lists.{allb};
 ghost use Rattle.arrays.specs.ArrayMap.{as-map};
-ghost use Rattle.protocol.specs.Parts.{on, start, every-machine, every-chare};
+ghost use Rattle.protocol.specs.Parts.{start, every-machine, every-chare};
 ghost use Rattle.protocol.specs.Job.{new-memory, begin as begun};
 ghost use Rattle.protocol.specs.Questions.{job-questions, show-questions};
 ghost use Rattle.protocol.specs.Step.{judged};
@@ -16,8 +16,9 @@ ghost use Rattle.layout.specs.View.{layout-view};
 ghost use Rattle.log.specs.Log.{has-ticket};
 ghost use Rattle.state.specs.View.{memory-view, memories, statuses, view};
 ghost use Rattle.state.specs.Outcome.{outcome-view, tried};
+ghost use Rattle.machines.specs.Homes.{residents};
 ghost use Rattle.machines.specs.Shown.{shown};
-ghost use Rattle.machines.specs.Settle.{calm, passes, Settles};
+ghost use Rattle.machines.specs.Settle.{calm, passes, Settles, Runs};
 ghost use Rattle.machines.specs.Chosen.{chosen};
 ghost use Rattle.machines.specs.Asking.{first-no, runs};
 ghost use Rattle.machines.specs.Begin.{first-memories, begin-with, Ready};
@@ -80,12 +81,14 @@ pub fn is_up(m: [Machine; 7], p: u8) -> bool
     }
 }
 
-// Which chares are on machine `p`.
+// Which chares are on machine `p`; 0 is none.
 pub fn on_machine(l: Layout, p: u8) -> [bool; 13]
-    requires { ⌜ 1 ≤ p ⌝ }
-    ensures { λ r. ⌜ as-map false r ≡ on (layout-view l) p ⌝ }
+    ensures { λ r. ⌜ as-map false r ≡ residents (layout-view l) p ⌝ }
 {
     let mut a = [false; 13];
+    if p == 0 {
+        return a;
+    }
     for c in 1..=12 {
         let x = layout::on(l, p, c);
         a[c as usize] = x;
@@ -341,24 +344,32 @@ fn settle_machine(q: Course, l: Layout, heights: [u16; 13], waits: [bool; 13], p
     Course { machines, target }
 }
 
-// Every machine that is done catching up is up.
-pub fn settle(s: State) -> State
-    ensures { λ r. ⌜ view r ≡ settle (view s) ⌝ }
+// The course once every machine that is done catching up is up.
+pub fn settled(l: Layout, machines: [Machine; 7], target: [u16; 13], live: [Memory; 13]) -> Course
+    ensures { λ r. ⌜ Runs l machines target live r ⌝ }
 {
-    let machines = s.machines;
+    let mut q = Course { machines, target };
     if all_calm(machines, false) {
-        return s;
+        return q;
     }
-    let l = s.layout;
-    let live = s.live;
     let h = heights(live);
     let t = waiting(live);
-    let target = s.target;
-    let mut q = Course { machines, target };
     for p in 1..=6 {
         let r = settle_machine(q, l, h, t, p);
         q = r;
     }
+    q
+}
+
+// Every machine that is done catching up is up.
+pub fn settle(s: State) -> State
+    ensures { λ r. ⌜ view r ≡ settle (view s) ⌝ }
+{
+    let l = s.layout;
+    let machines = s.machines;
+    let target = s.target;
+    let live = s.live;
+    let q = settled(l, machines, target, live);
     let mut r = s;
     let m = q.machines;
     let u = q.target;

@@ -1,9 +1,10 @@
 -- `checkpointed` puts the parts of a checkpoint together.
-use mathlib.Core.Path.{_≡_}
+use mathlib.Core.Path.{_≡_, _∙_}
 use native.Mathlib.Omega.{arith}
 use borrow.Author.Needs.{needs}
 use lib.ListN.{length}
 use Rattle.arrays.specs.Front.{long}
+use Rattle.machines.specs.Homes.{residents-on}
 use Rattle.checkpoints.specs.Whole.{checkpoint-is}
 use Rattle.checkpoints.proofs.checkpointed.Statement.{statement}
 use Rattle.checkpoints.proofs.checkpointed.Tie as tie
@@ -57,7 +58,7 @@ returns c =
     let start = which .before .before in
     let h = sizes start in
     let p = start .pre in
-    checkpoint-is _ _ _ (which .on-machine .ensures) _ (first .prune-all .ensures) _ (heights .heights .ensures) _ (copy .copy-all .ensures)
+    checkpoint-is _ _ _ (which .on-machine .ensures ∙ residents-on _ _ (p .0)) _ (first .prune-all .ensures) _ (heights .heights .ensures) _ (copy .copy-all .ensures)
     _ (live .clean-all .ensures) _ (c .empty .ensures) (omega arith) (omega arith)
 
 pub checkpointed-spec : {M : Type 1} → statement M

@@ -1,9 +1,10 @@
 -- `crashed` puts the parts of a crash together.
-use mathlib.Core.Path.{_≡_}
+use mathlib.Core.Path.{_≡_, _∙_}
 use native.Mathlib.Omega.{arith}
 use borrow.Author.Needs.{needs}
 use lib.ListN.{length}
 use Rattle.arrays.specs.Front.{long}
+use Rattle.machines.specs.Homes.{residents-on}
 use Rattle.crashes.specs.Whole.{crash-is, held-is, notes-are, live-is, copy-is}
 use Rattle.crashes.proofs.crashed.Statement.{statement}
 use Rattle.crashes.proofs.crashed.Tie as tie
@@ -62,7 +63,7 @@ returns c =
     crash-is _ _ _ _ _ _ _ (omega arith)
     (d .dropped .ensures .status)
     (held-is _ _ _ e _ (d .dropped .ensures))
-    (live-is _ _ _ (here .on-machine .ensures) _ (live .blanked .ensures))
+    (live-is _ _ _ (here .on-machine .ensures ∙ residents-on _ _ (p .0)) _ (live .blanked .ensures))
     (copy-is _ _ _ (theirs .kept-chares .ensures) _ (copy .blanked2 .ensures))
     (notes-are _ _ _ e _ (notes .emptied .ensures))
     (c .after-crash .ensures)

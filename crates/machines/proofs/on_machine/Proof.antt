@@ -1,5 +1,5 @@
 -- `on_machine` fills its array from chare 1 on; the desk is on no machine.
-use mathlib.Core.Path.{_≡_, refl, _∙_}
+use mathlib.Core.Path.{_≡_, refl, sym, _∙_}
 use mathlib.Core.Bool.{false}
 use Prim.Native.Nat.{_≤_, _-_}
 use native.Mathlib.Omega.{arith}
@@ -7,7 +7,7 @@ use borrow.Author.Needs.{needs}
 use lib.ListN.{length, length-set}
 use Rattle.arrays.specs.ArrayMap.{as-map, map-blank}
 use Rattle.protocol.specs.Parts.{on}
-use Rattle.machines.specs.Homes.{desk-off, beyond-off}
+use Rattle.machines.specs.Homes.{residents-on, residents-none, desk-off, beyond-off}
 use Rattle.machines.specs.Sweep.{front, front-start, front-end, array-put}
 use Rattle.layout.specs.View.{layout-view}
 use Rattle.machines.proofs.on_machine.Statement.{statement}
@@ -19,8 +19,11 @@ Inv-loop l p a₀ c₀ a c = (1 ≤ c) × (c ≤ 13) × (length a ≡ 13) × (as
 abbrev μ-loop : tie.MeasureT-loop
 μ-loop l p a₀ c₀ a c = 13 - c
 
+returns : tie.Need-returns Inv-loop μ-loop
+returns c = rw (c .if1 .taken) (map-blank false 13 ∙ sym (residents-none _))
+
 loop-holds : tie.Need-loop-holds Inv-loop μ-loop
-loop-holds c = (search needs, search needs, refl, map-blank false 13 ∙ front-start 1 _ _ (desk-off _ _ (c .pre)))
+loop-holds c = (search needs, search needs, refl, map-blank false 13 ∙ front-start 1 _ _ (desk-off _ _ (omega arith)))
 
 on-requires : tie.Need-on-requires Inv-loop μ-loop
 on-requires c κs = search needs
@@ -42,11 +45,10 @@ loop-again c =
     let l = c .before .before .loop in
     (search needs, search needs, simp length-set (l .inv .2), array-put false (l .a) (l .c) _ _ _ (l .inv .3) (omega arith) (c .on .ensures))
 
-returns : tie.Need-returns Inv-loop μ-loop
-returns c =
-    let s = c .before .before in
+returns-2 : tie.Need-returns-2 Inv-loop μ-loop
+returns-2 c =
     let l = c .before .loop in
-    front-end (l .c) _ _ _ (l .inv .3) 13 (omega arith) (beyond-off _ _ (s .pre) (search needs))
+    front-end (l .c) _ _ _ (l .inv .3) 13 (omega arith) (beyond-off _ _ (omega arith) (search needs)) ∙ sym (residents-on _ _ (omega arith))
 
 pub on-machine-spec : {M : Type 1} → statement M
 on-machine-spec =
@@ -54,6 +56,7 @@ on-machine-spec =
     (tie.spec
     Inv-loop
     μ-loop
+    returns
     loop-holds
     on-requires
     cast-a
@@ -61,4 +64,4 @@ on-machine-spec =
     add-c
     loop-less
     loop-again
-    returns)
+    returns-2)
