@@ -98,6 +98,6 @@ no-frame l h = go (bytes l) refl
         (λ f. absurd (omega (arith, d .half, exact-small b (d .small), exact b f)))
         (λ f. rw f)
 
-pub long-line-step : (s : State) (l : Line) → 2046 < length l → step s l ≡ record { state = s; answer = Refused 1 }
+pub long-line : (s : State) (l : Line) → 2046 < length l → step s l ≡ record { state = s; answer = Refused 1 }
 unfolding step step-frame
-long-line-step s l h = rw (no-frame l h)
+long-line s l h = rw (no-frame l h)

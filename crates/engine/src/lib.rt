@@ -1,8 +1,9 @@
 // One step: any state and the bytes of any line in, the state afterwards and the answer out.
 ghost use mathlib.Core.Path.{_≡_};
+ghost use Rattle.protocol.specs.Parts.{start};
+ghost use Rattle.protocol.specs.Step.{step};
 ghost use Rattle.state.specs.View.{view};
 ghost use Rattle.state.specs.Outcome.{outcome-view};
-ghost use Rattle.engine.specs.Engine.{stepped, before};
 ghost use Rattle.engine.specs.Play.{settles, settle-after};
 use frames::Frame;
 use protocol::Answer;
@@ -11,7 +12,7 @@ use state::Stepped;
 
 // The state before any job.
 pub fn start() -> State
-    ensures { λ r. ⌜ view r ≡ before ⌝ }
+    ensures { λ r. ⌜ view r ≡ start ⌝ }
 {
     machines::start()
 }
@@ -45,7 +46,7 @@ fn settled(r: Stepped) -> Stepped
 
 // Any state and the bytes of any line.
 pub fn step(s: State, line: &[u8]) -> Stepped
-    ensures { λ r. ⌜ outcome-view r ≡ stepped (view s) (now (line .entry)) ⌝ }
+    ensures { λ r. ⌜ outcome-view r ≡ step (view s) (now (line .entry)) ⌝ }
 {
     match frames::read(line) {
         Frame::Garbled => Stepped {

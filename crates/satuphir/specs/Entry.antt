@@ -4,16 +4,16 @@ use mathlib.Core.List.{List, _++_}
 use mathlib.Core.Path.{_≡_, sym, ap, _∙_}
 use Prim.Native.Nat.{ℕ}
 use lib.ListN.{length, drop}
-use Rattle.transcript.specs.Transcript.{transcribed}
 use Rattle.transcript.specs.View.{enough, whole-output, Transcribed}
 use Rattle.transcript.specs.declared.Ended.{Ended}
+use Rattle.protocol.specs.Step.{answers}
 
 -- the largest number of 64 bits: the buffer has no room for all answers
 abbrev pub no-room : ℕ
 no-room = 18446744073709551615
 
 unfoldable pub counted : ℕ → List ℕ → ℕ
-counted room input = cond (enough room input) (length (transcribed input)) no-room
+counted room input = cond (enough room input) (length (answers input)) no-room
 
 pub record Entered (input room : List ℕ) (r : ℕ) (out : List ℕ) : Type 0 where
   pub count : r ≡ counted (length room) input

@@ -3,9 +3,9 @@ use mathlib.Core.List.{List, [], _∷_, _++_}
 use mathlib.Core.Path.{_≡_, refl, ap, _∙_}
 use Prim.Native.Nat.{ℕ}
 use Rattle.lists.specs.Lists.{gather}
-use Rattle.transcript.specs.Transcript.{transcribed}
 use Rattle.transcript.specs.Reading.{Reading, beginning, read-all, output, last-output}
 use Rattle.transcript.specs.Pieces.{read-append, output-append, reads-transcript}
+use Rattle.protocol.specs.Step.{answers}
 
 unfoldable pub joined : List (List ℕ) → List ℕ
 joined ps = gather (λ p. p) ps
@@ -29,5 +29,5 @@ unfolding output-pieces joined gather output
 same-output r [] = refl
 same-output r (p ∷ ps) = rw output-append (ap (output r p ++_) (same-output (read-all r p) ps))
 
-pub pieces-transcript : (ps : List (List ℕ)) → output-pieces beginning ps ++ last-output (read-pieces beginning ps) ≡ transcribed (joined ps)
+pub pieces-transcript : (ps : List (List ℕ)) → output-pieces beginning ps ++ last-output (read-pieces beginning ps) ≡ answers (joined ps)
 pieces-transcript ps = rw (same-reader, same-output) (reads-transcript (joined ps))

@@ -11,7 +11,6 @@ use lib.Seq.{take-all, take-length, take-at, drop-at, drop-drop}
 use Rattle.lists.specs.Tests.{either}
 use Rattle.protocol.specs.Lines.{newline}
 use Rattle.state.specs.View.{view}
-use Rattle.transcript.specs.Transcript.{transcribed}
 use Rattle.transcript.specs.Reading.{Reading, answer-room, beginning, read-byte, byte-output, read-all, output, is-empty, last-output, takes, finishes}
 use Rattle.transcript.specs.Pieces.{output-nil, output-one, kept-empty, reads-transcript}
 use Rattle.transcript.specs.LineWise.{takes-nil}
@@ -19,6 +18,7 @@ use Rattle.transcript.specs.View.{reading, Feeding, end-output, Ending, 
 use Rattle.transcript.specs.declared.Reader.{Reader}
 use Rattle.transcript.specs.declared.Fed.{Fed}
 use Rattle.transcript.specs.declared.Ended.{Ended}
+use Rattle.protocol.specs.Step.{answers}
 
 -- ---- what was taken lies within the input, what was written within the buffer
 pub takes-le : (room : ℕ) (r : Reading) (i : List ℕ) → takes room r i ≤ length i

@@ -7,8 +7,7 @@ use lib.ListN.{length, take, drop, length-append, length-drop, take-append-drop}
 use lib.Seq.{take-add, drop-drop, take-at, drop-at, take-all, take-take, drop-length}
 use Rattle.protocol.specs.Parts as parts
 use Rattle.protocol.specs.Frames.{Line}
-use Rattle.protocol.specs.Step.{Outcome}
-use Rattle.engine.specs.Engine.{stepped}
+use Rattle.protocol.specs.Step.{Outcome, step}
 use Rattle.transcript.specs.Reading.{Reading, line-room, answer-room, within, printed, read-all, output, takes}
 use Rattle.transcript.specs.Pieces.{read-append, output-append, kept-step}
 use Rattle.transcript.specs.Copies.{put-at}
@@ -81,11 +80,11 @@ module _ (r : Reading) (input out₀ : List ℕ) (now : Reading) (t w : ℕ) (ou
 module _ (r : Reading) (input out₀ : List ℕ) (s : parts.State) (l : Line) (t w : ℕ) (out : List ℕ) (inv : Fed-so-far r input out₀ (within s l) t w out) (room : answer-room ≤ length out₀ - w) where
   -- a line that ends in the input
   pub fed-line : line-end (drop t input) < length (drop t input)
-      → Fed-so-far r input out₀ (within (stepped s (l ++ line-part (drop t input)) .state) []) (t + suc (line-end (drop t input))) (w + length (printed (stepped s (l ++ line-part (drop t input)) .answer))) (put-at out w (printed (stepped s (l ++ line-part (drop t input)) .answer)))
+      → Fed-so-far r input out₀ (within (step s (l ++ line-part (drop t input)) .state) []) (t + suc (line-end (drop t input))) (w + length (printed (step s (l ++ line-part (drop t input)) .answer))) (put-at out w (printed (step s (l ++ line-part (drop t input)) .answer)))
   fed-line there =
-      fed-more r input out₀ (within s l) t w out inv (suc (line-end (drop t input))) (printed (stepped s (l ++ line-part (drop t input)) .answer)) _
+      fed-more r input out₀ (within s l) t w out inv (suc (line-end (drop t input))) (printed (step s (l ++ line-part (drop t input)) .answer)) _
       (omega (arith, length-drop t input, inv .within-input))
-      (omega (arith, printed-fits (stepped s (l ++ line-part (drop t input)) .answer)))
+      (omega (arith, printed-fits (step s (l ++ line-part (drop t input)) .answer)))
       (read-line (drop t input) there s l)
       (line-output (drop t input) there s l)
       (takes-line (drop t input) there s l (length out₀ - w) room)
@@ -121,11 +120,11 @@ kept-part room l t n input kept e f g = let d : t + n - t ≡ line-end (drop t i
 module _ (r : Reading) (input out₀ : List ℕ) (s : parts.State) (l : Line) (t w : ℕ) (out : List ℕ) (inv : Fed-so-far r input out₀ (within s l) t w out) (room : answer-room ≤ length out₀ - w)
     (kept : Line) (is-kept : kept ≡ take line-room (l ++ line-part (drop t input))) (end : ℕ) (is-end : end ≡ t + line-end (drop t input)) where
   -- the line ends there, and its answer is put
-  pub fed-turn : end < length input → (o : Outcome) → o ≡ stepped s kept → (n : ℕ) (next : List ℕ) → n ≡ length (printed (o .answer)) → next ≡ put-at out w (printed (o .answer))
+  pub fed-turn : end < length input → (o : Outcome) → o ≡ step s kept → (n : ℕ) (next : List ℕ) → n ≡ length (printed (o .answer)) → next ≡ put-at out w (printed (o .answer))
       → Fed-so-far r input out₀ (within (o .state) []) (end + 1) (w + n) next
   fed-turn h o is-step n next is-long is-put =
       let e : end + 1 ≡ t + suc (line-end (drop t input)) = omega arith in
-      let f : o ≡ stepped s (l ++ line-part (drop t input)) = is-step ∙ ap (stepped s) is-kept ∙ kept-step s (l ++ line-part (drop t input)) in
+      let f : o ≡ step s (l ++ line-part (drop t input)) = is-step ∙ ap (step s) is-kept ∙ kept-step s (l ++ line-part (drop t input)) in
       rw (is-long, is-put, e, f) (fed-line r input out₀ s l t w out inv room (omega (arith, length-drop t input)))
 
   -- the input ends first

@@ -1,5 +1,4 @@
 -- What the contracts of the transcript say, and the laws that its proofs cite.
-pub mod Transcript
 pub mod Reading
 pub mod Pieces
 pub mod Chunks

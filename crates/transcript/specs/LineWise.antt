@@ -14,7 +14,7 @@ use Rattle.arrays.specs.Place.{place, place-le}
 use Rattle.protocol.specs.Parts as parts
 use Rattle.protocol.specs.Frames.{Line}
 use Rattle.protocol.specs.Lines.{newline}
-use Rattle.engine.specs.Engine.{stepped}
+use Rattle.protocol.specs.Step.{step}
 use Rattle.transcript.specs.Reading.{Reading, answer-room, within, printed, read-byte, byte-output, read-all, output, takes}
 use Rattle.transcript.specs.Pieces.{read-cons, output-cons, read-one, output-one, read-append, output-append, ends-state, ends-output, goes-on, goes-on-silent}
 
@@ -115,13 +115,13 @@ module _ (i : List ℕ) (there : line-end i < length i) where
   with-newline = take-suc i (line-end i) 0 there ∙ rw (newline-there i there)
 
   module _ (s : parts.State) (l : Line) where
-    pub read-line : read-all (within s l) (take (suc (line-end i)) i) ≡ within (stepped s (l ++ line-part i) .state) []
+    pub read-line : read-all (within s l) (take (suc (line-end i)) i) ≡ within (step s (l ++ line-part i) .state) []
     read-line = rw (with-newline, read-append, read-part, read-one) (ends-state s (l ++ line-part i) newline refl)
 
-    pub line-output : output (within s l) (take (suc (line-end i)) i) ≡ printed (stepped s (l ++ line-part i) .answer)
+    pub line-output : output (within s l) (take (suc (line-end i)) i) ≡ printed (step s (l ++ line-part i) .answer)
     line-output = rw (with-newline, output-append, silent-part, read-part, output-one) (ends-output s (l ++ line-part i) newline refl)
 
-    pub takes-line : (room : ℕ) → answer-room ≤ room → takes room (within s l) i ≡ suc (line-end i) + takes (room - length (printed (stepped s (l ++ line-part i) .answer))) (within (stepped s (l ++ line-part i) .state) []) (drop (suc (line-end i)) i)
+    pub takes-line : (room : ℕ) → answer-room ≤ room → takes room (within s l) i ≡ suc (line-end i) + takes (room - length (printed (step s (l ++ line-part i) .answer))) (within (step s (l ++ line-part i) .state) []) (drop (suc (line-end i)) i)
     takes-line room h =
         takes-part s room h l i
         ∙ rw (at-newline, takes-cons room (within s (l ++ line-part i)) newline (drop (suc (line-end i)) i) h, ends-output s (l ++ line-part i) newline refl, ends-state s (l ++ line-part i) newline refl) (omega arith)

@@ -12,8 +12,8 @@ use Rattle.lists.specs.Tests.{either, lt?}
 use Rattle.protocol.specs.Parts as parts
 use Rattle.protocol.specs.Frames.{Line}
 use Rattle.protocol.specs.Lines.{newline, extend, lines, line, print}
-use Rattle.engine.specs.Engine.{stepped, before, long-line}
-use Rattle.transcript.specs.Transcript.{answers-with, transcribed}
+use Rattle.engine.specs.LongLine.{long-line}
+use Rattle.protocol.specs.Step.{step, answers-from, answers}
 use Rattle.transcript.specs.Reading.{Reading, line-room, within, beginning, printed, read-byte, byte-output, read-all, output, is-empty, last-output}
 
 -- ---- pieces
@@ -83,10 +83,10 @@ take-more zero a p = refl
 take-more (suc n) [] p = refl
 take-more (suc n) (x ∷ a) p = ap (x ∷_) (take-more n a p)
 
-pub kept-step : (s : parts.State) (l : Line) → stepped s (take line-room l) ≡ stepped s l
+pub kept-step : (s : parts.State) (l : Line) → step s (take line-room l) ≡ step s l
 kept-step s l = elim (lt? line-room (length l)) [
   | inl h ↦ long-line s (take line-room l) (unfold line-room in omega (arith, length-take line-room l)) ∙ sym (long-line s l (unfold line-room in omega arith))
-  | inr h ↦ ap (stepped s) (take-all line-room l h)
+  | inr h ↦ ap (step s) (take-all line-room l h)
 ]
 
 pub kept-empty : (s : parts.State) (l : Line) → is-empty (within s l .line) ≡ is-empty l
@@ -96,11 +96,11 @@ kept-empty s (x ∷ l) = refl
 
 -- ---- a byte more
 module _ (s : parts.State) (l : Line) (b : ℕ) where
-  pub ends-state : eqb b newline ≡ true → read-byte (within s l) b ≡ within (stepped s l .state) []
+  pub ends-state : eqb b newline ≡ true → read-byte (within s l) b ≡ within (step s l .state) []
   unfolding within read-byte
-  ends-state e = rw (e, kept-step) (λ i. record { state = stepped s l .state; line = sym (take-nil line-room) i })
+  ends-state e = rw (e, kept-step) (λ i. record { state = step s l .state; line = sym (take-nil line-room) i })
 
-  pub ends-output : eqb b newline ≡ true → byte-output (within s l) b ≡ printed (stepped s l .answer)
+  pub ends-output : eqb b newline ≡ true → byte-output (within s l) b ≡ printed (step s l .answer)
   unfolding within byte-output
   ends-output e = rw (e, kept-step)
 
@@ -113,21 +113,21 @@ module _ (s : parts.State) (l : Line) (b : ℕ) where
   goes-on-silent e = rw e
 
 -- ---- at the end
-pub ending : (s : parts.State) (l : Line) → last-output (within s l) ≡ cond (is-empty l) [] (printed (stepped s l .answer))
+pub ending : (s : parts.State) (l : Line) → last-output (within s l) ≡ cond (is-empty l) [] (printed (step s l .answer))
 unfolding last-output
 ending s l = rw (ends-output s l newline refl, kept-empty s l)
 
 -- ---- the whole: what is printed on the way and at the end
-transcribes : (s : parts.State) (l : Line) (i : List ℕ) → output (within s l) i ++ last-output (read-all (within s l) i) ≡ print (answers-with s (continued l i))
-unfolding output read-all continued answers-with print printed
+transcribes : (s : parts.State) (l : Line) (i : List ℕ) → output (within s l) i ++ last-output (read-all (within s l) i) ≡ print (answers-from s (continued l i))
+unfolding output read-all continued answers-from print printed
 transcribes s l [] = rw ending (either (is-empty l) (λ e. rw e) (λ e. rw e))
 transcribes s l (b ∷ i) =
     either (eqb b newline)
     (λ e. rw (e, ends-output s l b, ends-state s l b)
-    (append-assoc (printed (stepped s l .answer)) (output (within (stepped s l .state) []) i) _
-    ∙ rw (transcribes (stepped s l .state) [] i) (append-assoc (line (stepped s l .answer)) (newline ∷ []) _)))
+    (append-assoc (printed (step s l .answer)) (output (within (step s l .state) []) i) _
+    ∙ rw (transcribes (step s l .state) [] i) (append-assoc (line (step s l .answer)) (newline ∷ []) _)))
     (λ e. rw (e, goes-on-silent s l b, goes-on s l b) (transcribes s (l ++ (b ∷ [])) i))
 
-pub reads-transcript : (i : List ℕ) → output beginning i ++ last-output (read-all beginning i) ≡ transcribed i
-unfolding beginning transcribed
-reads-transcript i = transcribes before [] i ∙ rw lines-continued
+pub reads-transcript : (i : List ℕ) → output beginning i ++ last-output (read-all beginning i) ≡ answers i
+unfolding beginning answers
+reads-transcript i = transcribes parts.start [] i ∙ rw lines-continued

@@ -8,7 +8,7 @@ use Rattle.protocol.specs.declared.Answer.{Answer}
 use Rattle.protocol.specs.Parts as parts
 use Rattle.protocol.specs.Frames.{Line}
 use Rattle.protocol.specs.Lines.{newline, line}
-use Rattle.engine.specs.Engine.{stepped, before}
+use Rattle.protocol.specs.Step.{step}
 
 -- One more than the longest frame has digits: of a longer line the first bytes are kept, which are no frame either.
 unfoldable pub line-room : ℕ
@@ -27,7 +27,7 @@ unfoldable pub within : parts.State → Line → Reading
 within s l = record { state = s; line = take line-room l }
 
 unfoldable pub beginning : Reading
-beginning = within before []
+beginning = within parts.start []
 
 -- an answer's line, with its newline
 unfoldable pub printed : Answer → List ℕ
@@ -37,11 +37,11 @@ printed a = line a ++ (newline ∷ [])
 unfoldable pub read-byte : Reading → ℕ → Reading
 read-byte r b =
     cond (eqb b newline)
-    (record { state = stepped (r .state) (r .line) .state; line = [] })
+    (record { state = step (r .state) (r .line) .state; line = [] })
     (record { state = r .state; line = take line-room (r .line ++ (b ∷ [])) })
 
 unfoldable pub byte-output : Reading → ℕ → List ℕ
-byte-output r b = cond (eqb b newline) (printed (stepped (r .state) (r .line) .answer)) []
+byte-output r b = cond (eqb b newline) (printed (step (r .state) (r .line) .answer)) []
 
 unfoldable pub read-all : Reading → List ℕ → Reading
 read-all r [] = r

@@ -11,8 +11,7 @@ use Rattle.lists.specs.Tests.{either}
 use Rattle.protocol.specs.Parts as parts
 use Rattle.protocol.specs.Frames.{Line}
 use Rattle.protocol.specs.Lines.{newline, lines}
-use Rattle.engine.specs.Engine.{stepped, before}
-use Rattle.transcript.specs.Transcript.{transcribed}
+use Rattle.protocol.specs.Step.{step, answers}
 use Rattle.transcript.specs.Reading.{Reading, answer-room, within, beginning, printed, read-byte, byte-output, read-all, output, is-empty, takes, finishes}
 use Rattle.transcript.specs.Pieces.{read-cons, output-nil, output-cons, continued, lines-continued, kept-empty, ends-state, ends-output, goes-on, goes-on-silent}
 use Rattle.transcript.specs.LineWise.{takes-nil, takes-cons}
@@ -60,7 +59,7 @@ enough-lines room s l (b ∷ i) h =
     (λ e.
     let g = rw e at h in
     enough-cons room (within s l) b i (omega arith)
-    (rw (ends-state s l b e, ends-output s l b e) (enough-lines (room - length (printed (stepped s l .answer))) (stepped s l .state) [] i (omega (arith, printed-fits (stepped s l .answer))))))
+    (rw (ends-state s l b e, ends-output s l b e) (enough-lines (room - length (printed (step s l .answer))) (step s l .state) [] i (omega (arith, printed-fits (step s l .answer))))))
     (λ e.
     let g = rw e at h in
     enough-cons room (within s l) b i (omega (arith, some-line (l ++ (b ∷ [])) i (begun-stays l b)))
@@ -70,9 +69,9 @@ enough-lines room s l (b ∷ i) h =
 pub enough-room : (room : ℕ) (input : List ℕ) → answer-room * length (lines input) ≤ room → enough room input ≡ true
 unfolding enough beginning
 enough-room room input h =
-    let e = enough-lines room before [] input (rw lines-continued at h) in
-    rw (eq-eqb (takes room (within before []) input) (length input) (e .all)) (e .end)
+    let e = enough-lines room parts.start [] input (rw lines-continued at h) in
+    rw (eq-eqb (takes room (within parts.start []) input) (length input) (e .all)) (e .end)
 
-pub whole-transcript : (room : ℕ) (input : List ℕ) → answer-room * length (lines input) ≤ room → whole-output room input ≡ transcribed input
+pub whole-transcript : (room : ℕ) (input : List ℕ) → answer-room * length (lines input) ≤ room → whole-output room input ≡ answers input
 unfolding whole-output
 whole-transcript room input h = rw (enough-room room input h)

@@ -7,12 +7,12 @@ use lib.Dec.{eqb}
 use lib.ListN.{length, take, drop}
 use Rattle.state.specs.declared.State.{State}
 use Rattle.state.specs.View.{view}
-use Rattle.transcript.specs.Transcript.{transcribed}
 use Rattle.transcript.specs.Reading.{Reading, within, beginning, read-all, output, last-output, takes, finishes}
 use Rattle.transcript.specs.Feeding.{Fed-so-far}
 use Rattle.transcript.specs.declared.Reader.{Reader}
 use Rattle.transcript.specs.declared.Fed.{Fed}
 use Rattle.transcript.specs.declared.Ended.{Ended}
+use Rattle.protocol.specs.Step.{answers}
 
 unfoldable pub reading : Reader → Reading
 reading r = within (view (r .state)) (take (r .len) (r .line))
@@ -47,7 +47,7 @@ enough room input = eqb (takes room beginning input) (length input) && finishes 
 
 -- the transcript where there is room for it, else the answers to the bytes that were taken
 unfoldable pub whole-output : ℕ → List ℕ → List ℕ
-whole-output room input = cond (enough room input) (transcribed input) (output beginning (take (takes room beginning input) input))
+whole-output room input = cond (enough room input) (answers input) (output beginning (take (takes room beginning input) input))
 
 pub record Transcribed (input room : List ℕ) (e : Ended) (out : List ℕ) : Type 0 where
   pub ok : e .ok ≡ enough (length room) input

@@ -42,7 +42,7 @@ pub fn begin() -> Reader
 }
 
 // How many bytes stand before the first newline.
-fn line_end(input: &[u8]) -> usize
+pub fn line_end(input: &[u8]) -> usize
     ensures { λ r. ⌜ r ≡ line-end (now (input .entry)) ⌝ }
 {
     let mut i = 0;

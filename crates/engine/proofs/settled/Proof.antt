@@ -5,25 +5,17 @@ use Rattle.engine.specs.Play.{settle-yes, settle-no}
 use borrow.Author.Needs.{needs}
 use Rattle.engine.proofs.settled.Statement.{statement}
 use Rattle.engine.proofs.settled.Tie as tie
-use Rattle.engine.proofs.settled.Reads as reads
-use Rattle.engine.proofs.settled.Lts as lts
-use Rattle.engine.proofs.is_accepted.Reads as is-accepted-reads
-use Rattle.machines.proofs.settle.Reads as settle-reads
 
--- src/lib.rt:35:9
 is-accepted-requires : tie.Need-is-accepted-requires
 is-accepted-requires c κs = search needs
 
--- src/lib.rt:36:9
 returns : tie.Need-returns
 unfolding outcome-view
 returns c = sym (settle-no (outcome-view (c .before .before .args .r)) (sym (c .before .is-accepted .ensures) ∙ not-true _ (c .if1 .taken)))
 
--- src/lib.rt:39:9
 settle-requires : tie.Need-settle-requires
 settle-requires c κs = search needs
 
--- src/lib.rt:31:1
 returns-2 : tie.Need-returns-2
 unfolding outcome-view
 returns-2 c =

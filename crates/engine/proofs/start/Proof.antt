@@ -1,5 +1,4 @@
 use borrow.Author.Needs.{needs}
-use Rattle.engine.specs.Engine.{before}
 use Rattle.engine.proofs.start.Statement.{statement}
 use Rattle.engine.proofs.start.Tie as tie
 
@@ -7,7 +6,6 @@ start-requires : tie.Need-start-requires
 start-requires c κs = search needs
 
 returns : tie.Need-returns
-unfolding before
 returns c = c .start .ensures
 
 pub start-spec : {M : Type 1} → statement M

@@ -12,18 +12,6 @@ use denote.Ref.{now}
 use borrow.Author.Needs.{needs}
 use Rattle.engine.proofs.step.Statement.{statement}
 use Rattle.engine.proofs.step.Tie as tie
-use Rattle.engine.proofs.step.Reads as reads
-use Rattle.engine.proofs.step.Lts as lts
-use Rattle.checkpoints.proofs.checkpoint.Reads as checkpoint-reads
-use Rattle.crashes.proofs.crash.Reads as crash-reads
-use Rattle.delivery.proofs.deliver.Reads as deliver-reads
-use Rattle.engine.proofs.settled.Reads as settled-reads
-use Rattle.frames.proofs.read.Reads as read-reads
-use Rattle.machines.proofs.job.Reads as job-reads
-use Rattle.machines.proofs.show.Reads as show-reads
-use Rattle.restarts.proofs.restart.Reads as restart-reads
-use Rattle.sending.proofs.inject.Reads as inject-reads
-use Rattle.sending.proofs.work.Reads as work-reads
 use Rattle.sending.specs.Works.{worked-state}
 
 read-requires : tie.Need-read-requires

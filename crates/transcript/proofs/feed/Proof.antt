@@ -11,7 +11,7 @@ use Rattle.protocol.specs.Step.{Outcome}
 use Rattle.state.specs.declared.State.{State}
 use Rattle.state.specs.Outcome.{outcome-view}
 use Rattle.state.specs.View.{view}
-use Rattle.engine.specs.Engine.{stepped}
+use Rattle.protocol.specs.Step.{step}
 use Rattle.transcript.specs.Copies.{take-min}
 use Rattle.transcript.specs.Feeding.{Fed-so-far, nothing-yet, kept-part, fed-turn, fed-stop, at-end, no-room}
 use Rattle.transcript.specs.LineWise.{line-end, line-end-le, line-end-rest, line-part}
@@ -110,7 +110,7 @@ abbrev answer-of : After-the-step → Answer
 answer-of c = c .step .result .answer
 
 line-stepped : (c : After-the-step) → let k = keep-place (newline-place c) in
-    _≡_ {A = Outcome} (record { state = view (next-state c); answer = answer-of c }) (stepped (view (turn-place (newline-place c) .before .loop .state)) (take (k .keep .result) (k .keep .last .0)))
+    _≡_ {A = Outcome} (record { state = view (next-state c); answer = answer-of c }) (step (view (turn-place (newline-place c) .before .loop .state)) (take (k .keep .result) (k .keep .last .0)))
 unfolding outcome-view
 line-stepped c = c .step .ensures
 
