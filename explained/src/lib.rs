@@ -1,7 +1,6 @@
 //! A list of frames explained for students, frame by frame, in words and in a picture.
 
 // The list and its lines.
-pub mod engine;
 pub mod lines;
 pub mod play;
 pub mod report;

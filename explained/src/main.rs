@@ -1,8 +1,8 @@
 //! `explain LIST`: what each frame of a list did, in words, and with `--picture` as a picture too.
 
-use explained::engine::{transcript, NOTICE};
 use explained::picture::draw;
 use explained::report::report;
+use reference::engine::transcript;
 use std::fs;
 use std::io::{self, Read, Write};
 use std::path::Path;
@@ -30,9 +30,6 @@ fn title(list: &str) -> String {
 
 fn run(list: &str, picture: Option<&str>) -> io::Result<ExitCode> {
     let input = read(list).map_err(|e| io::Error::new(e.kind(), format!("{list}: {e}")))?;
-    if let Some(notice) = NOTICE {
-        eprintln!("explain: {notice}");
-    }
     let report = report(&input, &transcript(&input));
     if let Some(file) = picture {
         fs::write(file, draw(&title(list), &report.story))

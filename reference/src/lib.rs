@@ -36,3 +36,7 @@ pub mod census;
 pub mod check;
 pub mod history;
 pub mod run;
+
+// The proved engine, to compare with.
+#[cfg(feature = "engine")]
+pub mod engine;

@@ -118,7 +118,7 @@ all-stay s (p ∷ l) e =
     let n = not-catching s p (calm-is (s .status p) (and-l _ _ e)) in
     subst (λ t. s ≡ settle-all t l) n (all-stay s l (and-r (calm false (s .status p)) _ e))
 
-settle-calm : (s : State) → allb (λ p. calm false (s .status p)) every-machine ≡ true → s ≡ settle s
+pub settle-calm : (s : State) → allb (λ p. calm false (s .status p)) every-machine ≡ true → s ≡ settle s
 unfolding settle
 settle-calm s e = all-stay s every-machine e
 

@@ -1,15 +1,21 @@
 -- The plans made from the code's memories: that of the sender counts where it is the receiver.
-use mathlib.Core.Path.{_≡_, refl, ap}
+use mathlib.Core.Path.{_≡_, refl, sym, ap}
 use mathlib.Core.Bool.{Bool, true, false, cond}
 use Prim.Native.Nat.{ℕ}
 use lib.Dec.{eqb}
 use Rattle.protocol.specs.Parts as parts
 use Rattle.protocol.specs.Sending.{is-local}
+use Rattle.layout.specs.declared.Layout.{Layout}
+use Rattle.layout.specs.View.{layout-view}
 use Rattle.state.specs.declared.Memory.{Memory}
-use Rattle.state.specs.View.{memory-view}
+use Rattle.state.specs.declared.State.{State}
+use Rattle.state.specs.View.{memory-view, view}
+use Rattle.sending.specs.declared.Places.{Places}
 use Rattle.sending.specs.declared.Ticket.{Ticket}
+use Rattle.sending.specs.declared.Trio.{Trio}
 use Rattle.sending.specs.Plan.{plan-on, plan-next}
 use Rattle.sending.specs.Placed.{first-plan, second-plan}
+use Rattle.sending.specs.Trio.{member, In, trio-view, member-at}
 
 either-view : (same : Bool) (x y : Memory) → memory-view (cond same x y) ≡ cond same (memory-view x) (memory-view y)
 either-view true x y = refl
@@ -23,3 +29,17 @@ module _ (j : parts.Job) (x y : Memory) (a b : ℕ) where
   pub second-view : (k : Ticket) (d : ℕ) → plan-next (is-local j a d) (memory-view x) (memory-view (cond (eqb d a) x y)) a b k d ≡ second-plan j (memory-view x) (memory-view y) a b k d
   unfolding second-plan
   second-view k d = ap (λ (m : parts.Memory). plan-next (is-local j a d) (memory-view x) m a b k d) (either-view (eqb d a) x y)
+
+-- ---- and from those of a trio
+module _ (s : State) (p : Places) (t : Trio) {l : Layout} (has : s .layout ≡ l) where
+  pub job-at : layout-view l ≡ trio-view s p t .job
+  unfolding trio-view view
+  job-at = ap layout-view (sym has)
+
+  module _ (x : parts.Memory) (a b : ℕ) where
+    pub first-at : (y : Memory) → y ≡ member p t b → In p b → first-plan (layout-view l) x (memory-view y) a b ≡ first-plan (trio-view s p t .job) x (trio-view s p t .live b) a b
+    first-at y e i = rw (job-at, e, member-at s p t b i)
+
+    pub second-at : (k : Ticket) (d : ℕ) (z : Memory) → z ≡ member p t d → In p d
+        → second-plan (layout-view l) x (memory-view z) a b k d ≡ second-plan (trio-view s p t .job) x (trio-view s p t .live d) a b k d
+    second-at k d z e i = rw (job-at, e, member-at s p t d i)

@@ -1,15 +1,14 @@
--- Parts of a state put back: what the view then is.
-use mathlib.Core.Path.{_≡_, refl, sym, ap, subst, _∙_}
-use mathlib.Core.Bool.{Bool, true, _&&_}
-use mathlib.Core.List.{List, _++_}
+-- A message sent by the memories and the wire of a trio: what the view then is.
+use mathlib.Core.Path.{_≡_, refl, ap, subst, _∙_}
+use mathlib.Core.Bool.{true}
+use mathlib.Core.List.{_++_}
 use Prim.Native.Nat.{ℕ, _<_}
 use native.Mathlib.Omega.{arith}
 use borrow.Author.Tests.{leb-true}
 use lib.Dec.{leb}
-use lib.ListN.{length, set, getD, length-set}
+use lib.ListN.{length}
 use Rattle.lists.specs.Tests.{and-r}
-use Rattle.lists.specs.Map.{upd, upd-ind}
-use Rattle.arrays.specs.ArrayMap.{as-map}
+use Rattle.lists.specs.Map.{upd-ind}
 use Rattle.protocol.specs.declared.Message.{Message}
 use Rattle.protocol.specs.Parts as parts
 use Rattle.protocol.specs.Frames.{between}
@@ -20,88 +19,62 @@ use Rattle.wire.specs.declared.Wire.{Wire}
 use Rattle.wire.specs.View.{packets}
 use Rattle.state.specs.declared.Memory.{Memory}
 use Rattle.state.specs.declared.State.{State}
-use Rattle.state.specs.View.{memory-view, memories, no-memory, view}
-use Rattle.state.specs.Store.{memories-set}
+use Rattle.state.specs.View.{memory-view}
+use Rattle.sending.specs.declared.Places.{Places}
 use Rattle.sending.specs.declared.Ticket.{Ticket}
+use Rattle.sending.specs.declared.Trio.{Trio}
 use Rattle.sending.specs.Ticket.{is-new, grows, tn-of, table-after, packets-of, logged}
 use Rattle.sending.specs.Sent.{ticketed, sent, Ready}
+use Rattle.sending.specs.Trio.{member, with-member, In, trio-live, trio-view, member-at, member-put}
 
 -- a chare of the job is within the arrays
 pub chare-index : (l : Layout) (c : ℕ) → between 1 (layout-view l .chares) c ≡ true → c < 13
 unfolding between
 chare-index l c e = omega (arith, chares-top l, leb-true c (layout-view l .chares) (and-r (leb 1 c) (leb c (layout-view l .chares)) e))
 
--- a memory in the array
-pub memory-at : (s : State) (i : ℕ) → memory-view (getD (s .live) i no-memory) ≡ view s .live i
-unfolding view memories as-map
-memory-at s i = refl
-
-abbrev pub with-wire : State → Wire → State
-with-wire s v = record {
-  layout = s .layout;
-  lost = s .lost;
-  machines = s .machines;
-  target = s .target;
-  live = s .live;
-  copy = s .copy;
-  notes = s .notes;
-  wire = v;
-}
-
-abbrev pub with-memories : State → List Memory → State
-with-memories s v = record {
-  layout = s .layout;
-  lost = s .lost;
-  machines = s .machines;
-  target = s .target;
-  live = v;
-  copy = s .copy;
-  notes = s .notes;
-  wire = s .wire;
-}
-
-module _ (s : State) (i : ℕ) (y : Memory) (h : i < length (s .live)) where
-  pub memory-put : view (with-memories s (set (s .live) i y)) ≡ parts.with-memory (view s) i (memory-view y)
-  unfolding view
-  memory-put = ap (λ v. parts.with-live (view s) v) (memories-set (s .live) i y h)
-
-pub wire-put : (s : State) (u : Wire) → view (with-wire s u) ≡ parts.with-wire (view s) (packets u)
-unfolding view
-wire-put s u = refl
-
-pub wire-at : (s : State) → packets (s .wire) ≡ view s .wire
-unfolding view
-wire-at s = refl
+abbrev pub with-wire : Trio → Wire → Trio
+with-wire t u = record { x = t .x; y = t .y; z = t .z; wire = u }
 
 -- the log of a chare stays when a table changes
 log-kept : (s : parts.State) (m : Message) (k : Ticket) (c : ℕ) → ticketed s m k .live c .log ≡ s .live c .log
 unfolding ticketed
 log-kept s m k c = upd-ind (λ i y. y .log ≡ s .live i .log) (m .receiver) _ (s .live) refl (λ i n. refl) c
 
--- a message sent: the receiver's memory z, then the sender's v, then the wire u
-module _ (s : State) (m : Message) (k : Ticket) (size : length (s .live) ≡ 13) (a-in : m .sender < 13) (b-in : m .receiver < 13) (ready : Ready (view s) m k) where
-  module _ (z : Memory) (new : (is-new k ≡ true → length (memory-view (getD (s .live) (m .receiver) no-memory) .table) < 16)
-      → memory-view z ≡ parts.with-table (memory-view (getD (s .live) (m .receiver) no-memory)) (table-after (memory-view (getD (s .live) (m .receiver) no-memory) .table) m k)) where
-    ticket-put : view (with-memories s (set (s .live) (m .receiver) z)) ≡ ticketed (view s) m k
+module _ (s : State) (p : Places) (t : Trio) (m : Message) (k : Ticket) (a-in : In p (m .sender)) (b-in : In p (m .receiver)) (ready : Ready (trio-view s p t) m k) where
+  -- the receiver's memory y becomes z
+  module _ (y : Memory) (y-is : y ≡ member p t (m .receiver)) (z : Memory)
+      (new : (is-new k ≡ true → length (memory-view y .table) < 16) → memory-view z ≡ parts.with-table (memory-view y) (table-after (memory-view y .table) m k))
+      (v : Trio) (v-is : v ≡ with-member p t (m .receiver) z) where
+    receiver-at : memory-view y ≡ trio-view s p t .live (m .receiver)
+    receiver-at = ap memory-view y-is ∙ member-at s p t (m .receiver) b-in
+
+    ticket-put : trio-view s p v ≡ ticketed (trio-view s p t) m k
     unfolding ticketed
     ticket-put =
-        memory-put s (m .receiver) z (omega arith)
-        ∙ ap (parts.with-memory (view s) (m .receiver)) (subst (λ y. (is-new k ≡ true → length (y .table) < 16) → memory-view z ≡ parts.with-table y (table-after (y .table) m k)) (memory-at s (m .receiver)) new (ready .table-room))
+        ap (trio-view s p) v-is
+        ∙ member-put s p t (m .receiver) b-in z
+        ∙ ap (parts.with-memory (trio-view s p t) (m .receiver)) (subst (λ o. (is-new k ≡ true → length (o .table) < 16) → memory-view z ≡ parts.with-table o (table-after (o .table) m k)) receiver-at new (ready .table-room))
 
-    module _ (v : Memory) (n : ℕ) (tn : n ≡ tn-of k) (logs : length (memory-view (getD (set (s .live) (m .receiver) z) (m .sender) no-memory) .log) < 16
-        → memory-view v ≡ logged (memory-view (getD (set (s .live) (m .receiver) z) (m .sender) no-memory)) m n) where
-      sender-at : memory-view (getD (set (s .live) (m .receiver) z) (m .sender) no-memory) ≡ ticketed (view s) m k .live (m .sender)
-      sender-at = memory-at (with-memories s (set (s .live) (m .receiver) z)) (m .sender) ∙ ap (λ (t : parts.State). t .live (m .sender)) ticket-put
+    -- the sender's memory x then becomes g
+    module _ (x : Memory) (x-is : x ≡ member p v (m .sender)) (g : Memory) (n : ℕ) (n-is : n ≡ tn-of k)
+        (logs : length (memory-view x .log) < 16 → memory-view g ≡ logged (memory-view x) m n) (r : Trio) (r-is : r ≡ with-member p v (m .sender) g) where
+      sender-at : memory-view x ≡ ticketed (trio-view s p t) m k .live (m .sender)
+      sender-at = ap memory-view x-is ∙ member-at s p v (m .sender) a-in ∙ ap (λ (o : parts.State). o .live (m .sender)) ticket-put
 
-      log-put : memory-view v ≡ logged (ticketed (view s) m k .live (m .sender)) m (tn-of k)
-      log-put = rw (← sender-at, ← tn) (logs (rw (sender-at, log-kept (view s) m k (m .sender)) (ready .log-room)))
+      log-put : memory-view g ≡ logged (ticketed (trio-view s p t) m k .live (m .sender)) m (tn-of k)
+      log-put = rw (← sender-at, ← n-is) (logs (rw (sender-at, log-kept (trio-view s p t) m k (m .sender)) (ready .log-room)))
 
-      module _ (u : Wire) (packed : (grows k ≡ true → length (packets (s .wire)) < 128) → packets u ≡ packets (s .wire) ++ packets-of m k) where
-        pub send-put : view (with-wire (with-memories s (set (set (s .live) (m .receiver) z) (m .sender) v)) u) ≡ sent (view s) m k
-        unfolding sent ticketed
-        send-put =
-            let t = with-memories s (set (s .live) (m .receiver) z) in
-            let w : packets u ≡ view s .wire ++ packets-of m k = rw (← wire-at s) (packed (rw (wire-at s) (ready .wire-room))) in
-            let e : view (with-memories t (set (t .live) (m .sender) v)) ≡ parts.with-memory (ticketed (view s) m k) (m .sender) (logged (ticketed (view s) m k .live (m .sender)) m (tn-of k)) =
-            memory-put t (m .sender) v (simp length-set (omega arith)) ∙ rw (ticket-put, log-put) refl in
-            rw (wire-put (with-memories t (set (t .live) (m .sender) v)) u, e, w)
+      both-put : trio-view s p r ≡ parts.with-memory (ticketed (trio-view s p t) m k) (m .sender) (logged (ticketed (trio-view s p t) m k .live (m .sender)) m (tn-of k))
+      both-put = ap (trio-view s p) r-is ∙ member-put s p v (m .sender) a-in g ∙ rw (ticket-put, log-put) refl
+
+      wire-at : packets (r .wire) ≡ trio-view s p t .wire
+      unfolding trio-view ticketed
+      wire-at = ap (λ (o : parts.State). o .wire) both-put
+
+      -- and the wire becomes u
+      pub send-put : (u : Wire) → ((grows k ≡ true → length (packets (r .wire)) < 128) → packets u ≡ packets (r .wire) ++ packets-of m k)
+          → trio-view s p (with-wire r u) ≡ sent (trio-view s p t) m k
+      unfolding trio-view trio-live sent ticketed
+      send-put u packed =
+          let w : packets u ≡ trio-view s p t .wire ++ packets-of m k = rw (← wire-at) (packed (rw wire-at (ready .wire-room))) in
+          ap (λ (o : parts.State). parts.with-wire o (packets u)) both-put ∙ rw w

@@ -24,6 +24,8 @@ ghost use Rattle.sending.specs.Placed.{first-plan, second-plan};
 ghost use Rattle.sending.specs.Works.{WorkedAs, worked-state, tried-work, chare-questions};
 ghost use Rattle.sending.specs.Plan.{idle, new-plan, plan-for, plan-next, last-after, base-after, extra-after, Listed};
 ghost use Rattle.sending.specs.Verdict.{verdict};
+ghost use Rattle.sending.specs.Trio.{member, with-member, In, trio-view, acted-view};
+ghost use Rattle.sending.specs.ByParts.{JudgesInject, Injects, number, places-of, AtPorts, Works};
 use layout::Layout;
 use protocol::Answer;
 use protocol::Content;
@@ -130,37 +132,74 @@ fn put(w: Wire, m: Message, k: Ticket) -> Wire
     }
 }
 
-// A message is sent: the ticket first, then the log, then the wire.
-fn send_message(s: State, m: Message, k: Ticket) -> State
-    requires { ⌜ (m .sender < 13) × (m .receiver < 13) ⌝ }
-    ensures { λ r. ⌜ (Ready (view s) m k → view r ≡ sent (view s) m k) ⌝ }
+// The numbers of the chare that works and of those at its ports. Where two are equal, the first counts.
+pub struct Places {
+    pub a: u8,
+    pub b: u8,
+    pub c: u8,
+}
+
+// The parts of a state that a work changes: the memories at three places, and the wire.
+pub struct Trio {
+    pub x: Memory,
+    pub y: Memory,
+    pub z: Memory,
+    pub wire: Wire,
+}
+
+fn member(p: Places, t: Trio, n: u8) -> Memory
+    ensures { λ r. ⌜ r ≡ member p t n ⌝ }
 {
-    let a = m.sender as usize;
-    let b = m.receiver as usize;
-    let mut t = s;
-    let y = t.live[b];
-    let z = take_ticket(y, m, k);
-    t.live[b] = z;
-    let x = t.live[a];
-    let v = log_message(x, m, tn_of(k));
-    t.live[a] = v;
-    let w = t.wire;
+    if n == p.a {
+        return t.x;
+    }
+    if n == p.b {
+        return t.y;
+    }
+    t.z
+}
+
+fn with_member(p: Places, t: Trio, n: u8, m: Memory) -> Trio
+    ensures { λ r. ⌜ r ≡ with-member p t n m ⌝ }
+{
+    let mut r = t;
+    if n == p.a {
+        r.x = m;
+        return r;
+    }
+    if n == p.b {
+        r.y = m;
+        return r;
+    }
+    r.z = m;
+    r
+}
+
+// A message is sent: the ticket first, then the log, then the wire.
+fn send_message(p: Places, t: Trio, m: Message, k: Ticket) -> Trio
+    requires { ⌜ m .receiver < 13 ⌝ }
+    ensures { λ r. ⌜ ((s : State) → In p (m .sender) → In p (m .receiver) → Ready (trio-view s p t) m k → trio-view s p r ≡ sent (trio-view s p t) m k) ⌝ }
+{
+    let y = member(p, t, m.receiver);
+    let v = with_member(p, t, m.receiver, take_ticket(y, m, k));
+    let x = member(p, v, m.sender);
+    let mut r = with_member(p, v, m.sender, log_message(x, m, tn_of(k)));
+    let w = r.wire;
     let u = put(w, m, k);
-    t.wire = u;
-    t
+    r.wire = u;
+    r
 }
 
 // A send after all questions are answered "yes".
-fn send(s: State, a: u8, b: u8, value: u16, hops: u8, k: Ticket) -> State
-    requires { ⌜ (a < 13) × (b < 13) ⌝ }
-    ensures { λ r. ⌜ (Sendable (view s) a b value hops k → view r ≡ send (view s) a b value hops) ⌝ }
+fn send(p: Places, t: Trio, a: u8, b: u8, value: u16, hops: u8, k: Ticket) -> Trio
+    requires { ⌜ b < 13 ⌝ }
+    ensures { λ r. ⌜ ((s : State) → In p a → In p b → Sendable (trio-view s p t) a b value hops k → trio-view s p r ≡ send (trio-view s p t) a b value hops) ⌝ }
 {
-    let i = a as usize;
     let j = b as usize;
-    let x = s.live[i];
+    let x = member(p, t, a);
     let n = x.sn[j];
     if 60000 <= n {
-        return s;
+        return t;
     }
     let m = Message {
         sender: a,
@@ -169,14 +208,13 @@ fn send(s: State, a: u8, b: u8, value: u16, hops: u8, k: Ticket) -> State
         value,
         hops,
     };
-    send_message(s, m, k)
+    send_message(p, t, m, k)
 }
 
 // The number of the question that refuses an inject, or 0.
-fn judge_inject(s: State, chare: u8, hops: u8) -> u8
-    ensures { λ r. ⌜ ((value : ℕ) → r ≡ verdict 2 (inject-questions (view s) chare value hops)) ⌝ }
+fn judge_inject(l: Layout, lost: bool, desk: Memory, w: Wire, chare: u8, hops: u8) -> u8
+    ensures { λ r. ⌜ JudgesInject l lost desk w chare hops r ⌝ }
 {
-    let l = s.layout;
     if !l.set {
         return 2;
     }
@@ -186,41 +224,80 @@ fn judge_inject(s: State, chare: u8, hops: u8) -> u8
     if 7 < hops {
         return 3;
     }
-    if s.lost {
+    if lost {
         return 4;
     }
-    let x = s.live[0];
     let b = chare as usize;
-    if 60000 <= x.sn[b] {
+    if 60000 <= desk.sn[b] {
         return 7;
     }
-    let g = x.log;
+    let g = desk.log;
     if 16 <= log::count(g) {
         return 9;
     }
-    let w = s.wire;
     if 128 <= wire::count(w) {
         return 11;
     }
     0
 }
 
-// Frame 10: the desk sends a message to a chare.
+// What an inject leaves of the desk's memory and the wire. A refused one leaves them as they were.
+pub struct Injected {
+    pub answer: Answer,
+    pub desk: Memory,
+    pub wire: Wire,
+}
+
+// The desk sends a message to a chare, by the parts of the state.
+pub fn inject_by(
+    layout: Layout,
+    lost: bool,
+    desk: Memory,
+    wire: Wire,
+    chare: u8,
+    value: u16,
+    hops: u8,
+) -> Injected
+    ensures { λ r. ⌜ Injects layout lost desk wire chare value hops r ⌝ }
+{
+    let no = judge_inject(layout, lost, desk, wire, chare, hops);
+    if no != 0 {
+        return Injected {
+            answer: Answer::Refused(no),
+            desk,
+            wire,
+        };
+    }
+    let b = chare as usize;
+    let m = Message {
+        sender: 0,
+        receiver: chare,
+        sn: desk.sn[b] + 1,
+        value,
+        hops,
+    };
+    Injected {
+        answer: Answer::Accepted,
+        desk: log_message(desk, m, 0),
+        wire: put(wire, m, Ticket::Remote),
+    }
+}
+
+// Frame 10.
 pub fn inject(s: State, chare: u8, value: u16, hops: u8) -> Stepped
     ensures { λ r. ⌜ outcome-view r ≡ tried (view s) (inject-questions (view s) chare value hops) (send (view s) 0 chare value hops) ⌝ }
 {
-    let n = judge_inject(s, chare, hops);
-    if n != 0 {
-        return Stepped {
-            state: s,
-            answer: Answer::Refused(n),
-        };
-    }
-    let t = send(s, 0, chare, value, hops, Ticket::Remote);
-    Stepped {
-        state: t,
-        answer: Answer::Accepted,
-    }
+    let l = s.layout;
+    let x = s.live[0];
+    let w = s.wire;
+    let r = inject_by(l, s.lost, x, w, chare, value, hops);
+    let mut t = s;
+    let desk = r.desk;
+    let wire = r.wire;
+    t.live[0] = desk;
+    t.wire = wire;
+    let answer = r.answer;
+    Stepped { state: t, answer }
 }
 
 // What a send needs to know before it is made: its ticket, whether the window admits it and whether the table has room for it.
@@ -508,63 +585,71 @@ fn second_plan(l: Layout, x: Memory, z: Memory, a: u8, b: u8, k: Ticket, d: u8) 
     plan_next(layout::is_local(l, a, d), x, m, a, b, k, d)
 }
 
-// The chare `a`, whose memory is to be x, sends one message, or the state stays as it was.
-fn send_one(s: State, x: Memory, a: u8, b: u8, value: u16, hops: u8) -> Stepped
+// What a work leaves of a trio. A refused one leaves it as it was.
+pub struct Acted {
+    pub answer: Answer,
+    pub trio: Trio,
+}
+
+// The chare `a`, whose memory is to be x, sends one message, or the trio stays as it was.
+fn send_one(l: Layout, p: Places, t: Trio, x: Memory, a: u8, b: u8, value: u16, hops: u8) -> Acted
     requires { ⌜ (a < 13) × (b < 13) ⌝ }
-    ensures { λ r. ⌜ outcome-view r ≡ tried-sends (view s) (with-memory (view s) a (memory-view x)) a (b ∷ []) value hops ⌝ }
+    ensures { λ r. ⌜ ((s : State) → s .layout ≡ l → In p a → In p b → acted-view s p r ≡ tried-sends (trio-view s p t) (with-memory (trio-view s p t) a (memory-view x)) a (b ∷ []) value hops) ⌝ }
 {
-    let i = a as usize;
-    let j = b as usize;
-    let l = s.layout;
-    let p = first_plan(l, x, s.live[j], a, b);
+    let y = member(p, t, b);
+    let f = first_plan(l, x, y, a, b);
     let g = x.log;
-    let w = s.wire;
-    let n = one_verdict(p, log::count(g), wire::count(w));
+    let w = t.wire;
+    let n = one_verdict(f, log::count(g), wire::count(w));
     if n != 0 {
-        return Stepped {
-            state: s,
+        return Acted {
             answer: Answer::Refused(n),
+            trio: t,
         };
     }
-    let mut t = s;
-    t.live[i] = x;
-    let k = p.ticket;
-    let u = send(t, a, b, value, hops, k);
-    Stepped {
-        state: u,
+    let k = f.ticket;
+    let u = send(p, with_member(p, t, a, x), a, b, value, hops, k);
+    Acted {
         answer: Answer::Accepted,
+        trio: u,
     }
 }
 
 // The same with two messages.
-fn send_two(s: State, x: Memory, a: u8, b: u8, d: u8, value: u16, hops: u8) -> Stepped
+fn send_two(
+    l: Layout,
+    p: Places,
+    t: Trio,
+    x: Memory,
+    a: u8,
+    b: u8,
+    d: u8,
+    value: u16,
+    hops: u8,
+) -> Acted
     requires { ⌜ (a < 13) × ((b < 13) × (d < 13)) ⌝ }
-    ensures { λ r. ⌜ outcome-view r ≡ tried-sends (view s) (with-memory (view s) a (memory-view x)) a (b ∷ d ∷ []) value hops ⌝ }
+    ensures { λ r. ⌜ ((s : State) → s .layout ≡ l → In p a → In p b → In p d → acted-view s p r ≡ tried-sends (trio-view s p t) (with-memory (trio-view s p t) a (memory-view x)) a (b ∷ d ∷ []) value hops) ⌝ }
 {
-    let i = a as usize;
-    let j = b as usize;
-    let o = d as usize;
-    let l = s.layout;
-    let p = first_plan(l, x, s.live[j], a, b);
-    let k = p.ticket;
-    let q = second_plan(l, x, s.live[o], a, b, k, d);
+    let y = member(p, t, b);
+    let f = first_plan(l, x, y, a, b);
+    let k = f.ticket;
+    let z = member(p, t, d);
+    let q = second_plan(l, x, z, a, b, k, d);
     let g = x.log;
-    let w = s.wire;
-    let n = two_verdict(p, q, log::count(g), wire::count(w));
+    let w = t.wire;
+    let n = two_verdict(f, q, log::count(g), wire::count(w));
     if n != 0 {
-        return Stepped {
-            state: s,
+        return Acted {
             answer: Answer::Refused(n),
+            trio: t,
         };
     }
-    let mut t = s;
-    t.live[i] = x;
-    let u = send(t, a, b, value, hops, k);
+    let u = send(p, with_member(p, t, a, x), a, b, value, hops, k);
     let h = q.ticket;
-    let v = send(u, a, d, value, hops, h);
-    Stepped {
-        state: v,
+    let v = send(p, u, a, d, value, hops, h);
+    Acted {
         answer: Answer::Accepted,
+        trio: v,
     }
 }
 
@@ -575,36 +660,32 @@ fn less_one(h: u8) -> u8
 }
 
 // The questions 6 to 11 of a work of the entry, and the work.
-fn work_on(s: State, chare: u8, e: Entry) -> Stepped
+fn work_on(l: Layout, p: Places, t: Trio, chare: u8, e: Entry) -> Acted
     requires { ⌜ chare < 13 ⌝ }
-    ensures { λ r. ⌜ outcome-view r ≡ tried-work (view s) chare (some e) ⌝ }
+    ensures { λ r. ⌜ ((s : State) → s .layout ≡ l → AtPorts l chare p → acted-view s p r ≡ tried-work (trio-view s p t) chare (some e)) ⌝ }
 {
-    let i = chare as usize;
-    let m = s.live[i];
+    let m = member(p, t, chare);
     let w = work_entry(m, e);
     if w.answer != 0 {
-        return Stepped {
-            state: s,
+        return Acted {
             answer: Answer::Refused(w.answer),
+            trio: t,
         };
     }
     let x = w.memory;
-    let l = s.layout;
     let r = receivers_of(l, chare, e.hops);
     if r.one == 0 {
-        let mut t = s;
-        t.live[i] = x;
-        return Stepped {
-            state: t,
+        return Acted {
             answer: Answer::Accepted,
+            trio: with_member(p, t, chare, x),
         };
     }
     let value = (x.state % 65536) as u16;
     let hops = less_one(e.hops);
     if r.two == 0 {
-        return send_one(s, x, chare, r.one, value, hops);
+        return send_one(l, p, t, x, chare, r.one, value, hops);
     }
-    send_two(s, x, chare, r.one, r.two, value, hops)
+    send_two(l, p, t, x, chare, r.one, r.two, value, hops)
 }
 
 fn is_down(m: Machine) -> bool
@@ -619,17 +700,16 @@ fn is_down(m: Machine) -> bool
 }
 
 // The first "no" of the questions 2 to 5 for a chare, or 0.
-fn judge_chare(s: State, chare: u8) -> u8
-    ensures { λ r. ⌜ r ≡ verdict 2 (chare-questions (view s) chare) ⌝ }
+fn judge_chare(l: Layout, lost: bool, machines: [Machine; 7], chare: u8) -> u8
+    ensures { λ r. ⌜ ((s : State) → s .layout ≡ l → s .lost ≡ lost → s .machines ≡ machines → r ≡ verdict 2 (chare-questions (view s) chare)) ⌝ }
 {
-    let l = s.layout;
     if !l.set {
         return 2;
     }
     if !layout::is_chare(l, chare) {
         return 3;
     }
-    if s.lost {
+    if lost {
         return 4;
     }
     let h = layout::home(l, chare);
@@ -637,7 +717,7 @@ fn judge_chare(s: State, chare: u8) -> u8
         return 0;
     }
     let p = h as usize;
-    let m = s.machines[p];
+    let m = machines[p];
     if is_down(m) {
         return 5;
     }
@@ -655,24 +735,77 @@ fn next_entry(m: Memory) -> FoundEntry
     table::find_tn(t, m.height + 1)
 }
 
-// Frame 12: a chare works the message of its next TN.
+// The number of a chare, or 0 where there can be none such: an index of the memories.
+fn number(chare: u8) -> u8
+    ensures { λ r. ⌜ r ≡ number chare ⌝ }
+{
+    if chare < 13 { chare } else { 0 }
+}
+
+// A chare works the message of its next TN, by the parts of the state: the places are the chare's and its ports'.
+pub fn work_by(
+    layout: Layout,
+    lost: bool,
+    machines: [Machine; 7],
+    places: Places,
+    trio: Trio,
+    chare: u8,
+) -> Acted
+    ensures { λ r. ⌜ Works layout lost machines places trio chare r ⌝ }
+{
+    let n = judge_chare(layout, lost, machines, chare);
+    if n != 0 {
+        return Acted {
+            answer: Answer::Refused(n),
+            trio,
+        };
+    }
+    let m = member(places, trio, chare);
+    match next_entry(m) {
+        FoundEntry::Nothing => Acted {
+            answer: Answer::Refused(6),
+            trio,
+        },
+        FoundEntry::At(e) => work_on(layout, places, trio, chare, e),
+    }
+}
+
+// The places of a work.
+pub fn places_of(l: Layout, chare: u8) -> Places
+    ensures { λ r. ⌜ r ≡ places-of (layout-view l) chare ⌝ }
+{
+    Places {
+        a: number(chare),
+        b: layout::first(l, chare),
+        c: layout::second(l, chare),
+    }
+}
+
+// Frame 12.
 pub fn work(s: State, chare: u8) -> Stepped
     ensures { λ r. ⌜ outcome-view r ≡ tried (view s) (work-questions (view s) chare) (worked-state (view s) chare (next-entry (view s .live chare))) ⌝ }
 {
-    let n = judge_chare(s, chare);
-    if n != 0 {
-        return Stepped {
-            state: s,
-            answer: Answer::Refused(n),
-        };
-    }
-    let i = chare as usize;
-    let m = s.live[i];
-    match next_entry(m) {
-        FoundEntry::Nothing => Stepped {
-            state: s,
-            answer: Answer::Refused(6),
-        },
-        FoundEntry::At(e) => work_on(s, chare, e),
-    }
+    let l = s.layout;
+    let machines = s.machines;
+    let p = places_of(l, chare);
+    let i = p.a as usize;
+    let j = p.b as usize;
+    let k = p.c as usize;
+    let x = s.live[i];
+    let y = s.live[j];
+    let z = s.live[k];
+    let wire = s.wire;
+    let r = work_by(l, s.lost, machines, p, Trio { x, y, z, wire }, chare);
+    let t = r.trio;
+    let own = t.x;
+    let one = t.y;
+    let two = t.z;
+    let w = t.wire;
+    let mut u = s;
+    u.live[k] = two;
+    u.live[j] = one;
+    u.live[i] = own;
+    u.wire = w;
+    let answer = r.answer;
+    Stepped { state: u, answer }
 }

@@ -3,8 +3,8 @@
 // Not every test needs all of it.
 #![allow(dead_code)]
 
-use explained::engine::transcript;
 use explained::report::{report, Report};
+use reference::engine::transcript;
 use std::fs;
 use std::path::{Path, PathBuf};
 

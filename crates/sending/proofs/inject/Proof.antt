@@ -1,46 +1,35 @@
-use Rattle.sending.specs.Store.{chare-index}
-use Rattle.sending.specs.Inject.{desk-chare, desk-sendable}
-use Rattle.sending.specs.Verdict.{verdict, judged-no, judged-yes}
-use Rattle.state.specs.Outcome.{outcome-view, tried}
-use Rattle.state.specs.View.{view}
-use Rattle.protocol.specs.Questions.{inject-questions, is-chare}
+-- `inject` takes the parts out of the state and puts them back.
+use mathlib.Core.Path.{_≡_}
 use native.Mathlib.Omega.{arith}
-use Prim.Native.Nat.{_<_}
-use mathlib.Core.Path.{_≡_, sym, _∙_}
 use borrow.Author.Needs.{needs}
+use lib.ListN.{length}
+use Rattle.arrays.specs.Front.{long}
+use Rattle.sending.specs.InjectBy.{frame-injects}
 use Rattle.sending.proofs.inject.Statement.{statement}
 use Rattle.sending.proofs.inject.Tie as tie
-use Rattle.sending.proofs.inject.Reads as reads
-use Rattle.sending.proofs.inject.Lts as lts
-use Rattle.sending.proofs.judge_inject.Reads as judge-inject-reads
-use Rattle.sending.proofs.send.Reads as send-reads
 
-none : (c : tie.Else1) → let a = c .before .before .args in verdict 2 (inject-questions (view (a .s)) (a .chare) (a .value) (a .hops)) ≡ 0
-none c = sym (c .before .judge-inject .ensures (c .before .before .args .value)) ∙ c .if1 .left
+-- the lengths of the state's arrays
+live-long : (c : tie.Start) → length (c .args .t1 .live) ≡ 13
+live-long c = search (long, needs)
 
-chare-in : (c : tie.Else1) → c .before .before .args .chare < 13
-unfolding view is-chare
-chare-in c = let a = c .before .before .args in chare-index (a .s .layout) (a .chare) (desk-chare (view (a .s)) (a .chare) (a .value) (a .hops) (none c))
+notes-long : (c : tie.Start) → length (c .args .t1 .notes) ≡ 7
+notes-long c = search (long, needs)
 
-judge-inject-requires : tie.Need-judge-inject-requires
-judge-inject-requires c κs = search needs
+element-copy-out-x : tie.Need-element-copy-out-x
+element-copy-out-x c = search needs
+
+inject-by-requires : tie.Need-inject-by-requires
+inject-by-requires c κs = search needs
+
+element-set-from-desk : tie.Need-element-set-from-desk
+element-set-from-desk c = search needs
 
 returns : tie.Need-returns
-unfolding outcome-view tried
 returns c =
-    let j = c .before .judge-inject in
-    let a = c .before .before .args in
-    rw (judged-no (view (a .s)) 2 (inject-questions (view (a .s)) (a .chare) (a .value) (a .hops)) _ (rw (j .ensures (a .value)) at (c .if1 .taken)), j .ensures (a .value))
-
-send-requires : tie.Need-send-requires
-send-requires c κs = (omega arith, chare-in c)
-
-returns-2 : tie.Need-returns-2
-unfolding outcome-view tried
-returns-2 c =
-    let a = c .before .before .before .args in
-    let s = view (a .s) in
-    rw (judged-yes s 1 (inject-questions s (a .chare) (a .value) (a .hops)) _ (none (c .before)), c .send .ensures (desk-sendable s (a .chare) (a .value) (a .hops) (none (c .before))))
+    let o = c .before .before .before .before .before .before in
+    let a = o .args in
+    frame-injects (a .t1) (a .chare) (a .value) (a .hops) (c .before .before .inject-by .result) (omega (arith, live-long o)) (omega (arith, notes-long o)) (c .before .before .inject-by .ensures)
 
 pub inject-spec : {M : Type 1} → statement M
-inject-spec = tie.close (tie.spec judge-inject-requires returns send-requires returns-2)
+inject-spec =
+    tie.close (tie.spec element-copy-out-x inject-by-requires element-set-from-desk returns)

@@ -1,38 +1,33 @@
 -- `send_one`: the verdict is that of the definitions' questions in the state with x stored, and so is the send.
-use mathlib.Core.Path.{_≡_, _∙_}
+use mathlib.Core.Path.{_≡_, ap, _∙_}
 use mathlib.Core.List.{[], _∷_}
 use native.Mathlib.Omega.{arith}
-use borrow.Author.Needs.{needs}
-use lib.ListN.{length}
-use Rattle.arrays.specs.ArrayMap.{as-map}
-use Rattle.arrays.specs.Front.{long}
 use Rattle.protocol.specs.Parts.{with-memory}
 use Rattle.protocol.specs.Sending.{send-all}
-use Rattle.state.specs.View.{memory-view, memories, view}
-use Rattle.state.specs.Outcome.{outcome-view}
+use Rattle.state.specs.declared.State.{State}
+use Rattle.state.specs.View.{memory-view}
 use Rattle.sending.specs.Room.{log-top, wire-top}
 use Rattle.sending.specs.Sends.{sends-questions}
-use Rattle.sending.specs.Store.{memory-put}
+use Rattle.sending.specs.Placed.{first-plan}
+use Rattle.sending.specs.PlacedView.{first-at}
+use Rattle.sending.specs.Trio.{In, trio-view, acted-view, member-put}
 use Rattle.sending.specs.Tried.{sends-refused, sends-made, one-said, one-ready, sent-in}
 use Rattle.sending.specs.Verdict.{verdict}
+use borrow.Author.Needs.{needs}
 use Rattle.sending.proofs.send_one.Statement.{statement}
 use Rattle.sending.proofs.send_one.Tie as tie
 use Rattle.sending.proofs.send_one.Reads as reads
 use Rattle.sending.proofs.send_one.Lts as lts
 use Rattle.log.proofs.count.Reads as count-reads
 use Rattle.sending.proofs.first_plan.Reads as first-plan-reads
+use Rattle.sending.proofs.member.Reads as member-reads
 use Rattle.sending.proofs.one_verdict.Reads as one-verdict-reads
 use Rattle.sending.proofs.send.Reads as send-reads
+use Rattle.sending.proofs.with_member.Reads as with-member-reads
 use Rattle.wire.proofs.count.Reads as count-reads′
 
-live-long : (c : tie.Start) → length (c .args .t1 .live) ≡ 13
-live-long c = search (long, needs)
-
-mul-first-plan : tie.Need-mul-first-plan
-mul-first-plan c = search needs
-
-element-copy-out-first-plan : tie.Need-element-copy-out-first-plan
-element-copy-out-first-plan c = search needs
+member-requires : tie.Need-member-requires
+member-requires c κs = search needs
 
 first-plan-requires : tie.Need-first-plan-requires
 first-plan-requires c κs = search needs
@@ -44,58 +39,64 @@ count-requires-2 : tie.Need-count-requires-2
 count-requires-2 c κs = search needs
 
 one-verdict-requires : tie.Need-one-verdict-requires
-one-verdict-requires c κs = (omega (arith, c .before .count .ensures, log-top (c .before .before .before .before .before .before .before .args .x .log)), omega (arith, c .count2 .ensures, wire-top (c .before .before .before .before .before .before .before .args .t1 .wire)))
+one-verdict-requires c κs =
+    let a = c .before .before .before .before .before .before .args in
+    (omega (arith, c .before .count .ensures, log-top (a .x .log)), omega (arith, c .count2 .ensures, wire-top (a .t .wire)))
 
-said : (c : tie.After-one-verdict) → let a = c .before .before .before .before .before .before .before .before .args in
-    verdict 7 (sends-questions (with-memory (view (a .t1)) (a .a) (memory-view (a .x))) (a .a) (a .b ∷ []) (a .value) (a .hops)) ≡ c .one-verdict .result
-unfolding view memories memory-view as-map
-said c =
+planned : (c : tie.After-first-plan) (s : State) → let a = c .before .before .args in s .layout ≡ a .l → In (a .p) (a .b)
+    → c .first-plan .result ≡ first-plan (trio-view s (a .p) (a .t) .job) (memory-view (a .x)) (trio-view s (a .p) (a .t) .live (a .b)) (a .a) (a .b)
+planned c s has b-in =
+    let a = c .before .before .args in
+    c .first-plan .ensures ∙ first-at s (a .p) (a .t) has (memory-view (a .x)) (a .a) (a .b) (c .before .member .result) (c .before .member .ensures) b-in
+
+said : (c : tie.After-one-verdict) (s : State) → let a = c .before .before .before .before .before .before .before .args in s .layout ≡ a .l → In (a .p) (a .b)
+    → verdict 7 (sends-questions (with-memory (trio-view s (a .p) (a .t)) (a .a) (memory-view (a .x))) (a .a) (a .b ∷ []) (a .value) (a .hops)) ≡ c .one-verdict .result
+unfolding memory-view trio-view
+said c s has b-in =
     let w = c .before in
     let f = w .before .before .before .before in
-    let a = f .before .before .before .args in
-    one-said (view (a .t1)) (memory-view (a .x)) (a .a) (a .b) (a .value) (a .hops) (f .first-plan .result) (f .first-plan .ensures)
+    let a = f .before .before .args in
+    one-said (trio-view s (a .p) (a .t)) (memory-view (a .x)) (a .a) (a .b) (a .value) (a .hops) (f .first-plan .result) (planned f s has b-in)
     (w .before .count .result) (w .count2 .result) (c .one-verdict .result) (w .before .count .ensures) (w .count2 .ensures) (c .one-verdict .ensures)
 
 returns : tie.Need-returns
-unfolding outcome-view
-returns c = sends-refused _ _ _ _ _ _ _ (said (c .before)) (c .if1 .taken)
+unfolding acted-view
+returns c s has a-in b-in = sends-refused _ _ _ _ _ _ _ (said (c .before) s has b-in) (c .if1 .taken)
 
-mul-x : tie.Need-mul-x
-mul-x c = search needs
-
-element-set-from-x : tie.Need-element-set-from-x
-element-set-from-x c = search needs
+with-member-requires : tie.Need-with-member-requires
+with-member-requires c κs = search needs
 
 send-requires : tie.Need-send-requires
 send-requires c κs = search needs
 
-made : (c : tie.After-send) → let a = c .before .before .before .before .before .before .before .before .before .before .args in
-    view (c .send .result) ≡ send-all (with-memory (view (a .t1)) (a .a) (memory-view (a .x))) (a .a) (a .b ∷ []) (a .value) (a .hops)
-unfolding view memories memory-view as-map send-all
-made c =
-    let n = c .before .before in
-    let f = n .before .before .before .before .before in
-    let o = f .before .before .before in
-    let a = o .args in
-    sent-in (memory-put (a .t1) (a .a) (a .x) (omega (arith, live-long o, o .pre))) (c .send .ensures)
-    (one-ready (view (a .t1)) (memory-view (a .x)) (a .a) (a .b) (a .value) (a .hops) (f .first-plan .result) (f .first-plan .ensures) (said n ∙ c .before .if1 .left))
+made : (c : tie.After-send) (s : State) → let a = c .before .before .before .before .before .before .before .before .before .before .args in
+    s .layout ≡ a .l → In (a .p) (a .a) → In (a .p) (a .b)
+    → trio-view s (a .p) (c .send .result) ≡ send-all (with-memory (trio-view s (a .p) (a .t)) (a .a) (memory-view (a .x))) (a .a) (a .b ∷ []) (a .value) (a .hops)
+unfolding send-all
+made c s has a-in b-in =
+    let v = c .before in
+    let i = v .before in
+    let f = i .before .before .before .before .before .before in
+    let a = f .before .before .args in
+    sent-in (ap (trio-view s (a .p)) (v .with-member .ensures) ∙ member-put s (a .p) (a .t) (a .a) a-in (a .x)) (c .send .ensures s a-in b-in)
+    (one-ready (trio-view s (a .p) (a .t)) (memory-view (a .x)) (a .a) (a .b) (a .value) (a .hops) (f .first-plan .result) (planned f s has b-in) (said (i .before) s has b-in ∙ i .if1 .left))
 
 returns-2 : tie.Need-returns-2
-unfolding outcome-view
-returns-2 c = sends-made _ _ _ _ _ _ _ (said (c .before .before)) (c .before .if1 .left) _ (made c)
+unfolding acted-view
+returns-2 c s has a-in b-in =
+    let i = c .before .before in
+    sends-made _ _ _ _ _ _ _ (said (i .before) s has b-in) (i .if1 .left) _ (made c s has a-in b-in)
 
 pub send-one-spec : {M : Type 1} → statement M
 send-one-spec =
     tie.close
     (tie.spec
-    mul-first-plan
-    element-copy-out-first-plan
+    member-requires
     first-plan-requires
     count-requires
     count-requires-2
     one-verdict-requires
     returns
-    mul-x
-    element-set-from-x
+    with-member-requires
     send-requires
     returns-2)

@@ -1,89 +1,103 @@
--- `work`: the questions on the chare, then those on its next entry.
-use mathlib.Core.Path.{sym, ap, _∙_}
-use Prim.Native.Nat.{_<_}
+-- `work`: the parts taken out, worked and put back.
+use mathlib.Core.Path.{_≡_, refl}
+use lib.ListN.{length}
+use Rattle.arrays.specs.Front.{long}
+use Rattle.sending.specs.AtPorts.{first-in, second-in, third-in}
+use Rattle.sending.specs.ByParts.{AtPorts, Works}
 use borrow.Author.Needs.{needs}
-use Rattle.arrays.specs.ArrayMap.{as-map}
-use Rattle.protocol.specs.Questions.{is-chare}
-use Rattle.table.specs.Table.{found-entry}
-use Rattle.state.specs.View.{memories, view}
-use Rattle.state.specs.Outcome.{outcome-view}
-use Rattle.sending.specs.Store.{chare-index}
-use Rattle.sending.specs.Works.{none-refused}
-use Rattle.sending.specs.WorkLaws.{chare-refused, chare-there, chare-passed}
 use Rattle.sending.proofs.work.Statement.{statement}
 use Rattle.sending.proofs.work.Tie as tie
 use Rattle.sending.proofs.work.Reads as reads
 use Rattle.sending.proofs.work.Lts as lts
-use Rattle.sending.proofs.judge_chare.Reads as judge-chare-reads
-use Rattle.sending.proofs.next_entry.Reads as next-entry-reads
-use Rattle.sending.proofs.work_on.Reads as work-on-reads
+use Rattle.sending.proofs.places_of.Reads as places-of-reads
+use Rattle.sending.proofs.work_by.Reads as work-by-reads
 
-judge-chare-requires : tie.Need-judge-chare-requires
-judge-chare-requires c κs = search needs
+places-of-requires : tie.Need-places-of-requires
+places-of-requires c κs = search needs
+
+cast-i : tie.Need-cast-i
+cast-i c = search needs
+
+cast-j : tie.Need-cast-j
+cast-j c = search needs
+
+cast-k : tie.Need-cast-k
+cast-k c = search needs
+
+mul-x : tie.Need-mul-x
+mul-x c = search needs
+
+placed : (c : tie.After-places-of) → AtPorts (c .before .before .before .args .t1 .layout) (c .before .before .before .args .chare) (c .places-of .result)
+unfolding AtPorts
+placed c = c .places-of .ensures
+
+element-copy-out-x : tie.Need-element-copy-out-x
+element-copy-out-x c = first-in _ _ _ (placed (c .before .before .before))
+
+mul-y : tie.Need-mul-y
+mul-y c = search needs
+
+element-copy-out-y : tie.Need-element-copy-out-y
+element-copy-out-y c = second-in _ _ _ (placed (c .before .before .before .before))
+
+mul-z : tie.Need-mul-z
+mul-z c = search needs
+
+element-copy-out-z : tie.Need-element-copy-out-z
+element-copy-out-z c = third-in _ _ _ (placed (c .before .before .before .before .before))
+
+work-by-requires : tie.Need-work-by-requires
+work-by-requires c κs = search needs
+
+mul-two : tie.Need-mul-two
+mul-two c = search needs
+
+element-set-from-two : tie.Need-element-set-from-two
+element-set-from-two c = third-in _ _ _ (placed (c .before .before .before .before .before .before .before .before .before .before .before .before .before))
+
+mul-one : tie.Need-mul-one
+mul-one c = search needs
+
+element-set-from-one : tie.Need-element-set-from-one
+element-set-from-one c = second-in _ _ _ (placed (c .before .before .before .before .before .before .before .before .before .before .before .before .before))
+
+mul-own : tie.Need-mul-own
+mul-own c = search needs
+
+element-set-from-own : tie.Need-element-set-from-own
+element-set-from-own c = first-in _ _ _ (placed (c .before .before .before .before .before .before .before .before .before .before .before .before .before))
+
+live-long : (c : tie.Start) → length (c .args .t1 .live) ≡ 13
+live-long c = search (long, needs)
 
 returns : tie.Need-returns
-unfolding outcome-view
-returns c = let j = c .before in let a = j .before .args in chare-refused (view (a .t1)) (a .chare) (j .judge-chare .result) (j .judge-chare .ensures) (c .if1 .taken)
-
-chare-in : (c : tie.Else1) → c .before .before .args .chare < 13
-unfolding view is-chare
-chare-in c =
-    let j = c .before in
-    let a = j .before .args in
-    chare-index (a .t1 .layout) (a .chare) (chare-there (view (a .t1)) (a .chare) (j .judge-chare .result) (j .judge-chare .ensures) (c .if1 .left))
-
-mul-m : tie.Need-mul-m
-mul-m c = search needs
-
-element-copy-out-m : tie.Need-element-copy-out-m
-element-copy-out-m c = chare-in c
-
-next-entry-requires : tie.Need-next-entry-requires
-next-entry-requires c κs = search needs
-
-enum-told : tie.Need-enum-told
-enum-told c = search needs
-
-enum-known-e : tie.Need-enum-known-e
-enum-known-e c = search needs
-
-work-on-requires : tie.Need-work-on-requires
-work-on-requires c κs = chare-in (c .before .before .before .before .before)
-
-returns-2 : tie.Need-returns-2
-unfolding outcome-view view memories as-map found-entry
-returns-2 c =
-    let f = c .before .before in
-    let i = f .before .before in
-    let j = i .before in
-    let a = j .before .args in
-    sym (none-refused (view (a .t1)) (a .chare))
-    ∙ chare-passed (view (a .t1)) (a .chare) (j .judge-chare .result) (j .judge-chare .ensures) (i .if1 .left)
-    _ (ap found-entry (sym (c .enum-told .given .1)) ∙ f .next-entry .ensures)
-
-returns-3 : tie.Need-returns-3
-unfolding view memories as-map found-entry
-returns-3 c =
-    let k = c .before .before in
-    let f = k .before .before in
-    let i = f .before .before in
-    let j = i .before in
-    let a = j .before .args in
-    c .work-on .ensures
-    ∙ chare-passed (view (a .t1)) (a .chare) (j .judge-chare .result) (j .judge-chare .ensures) (i .if1 .left)
-    _ (ap found-entry (sym (k .e .given .1)) ∙ f .next-entry .ensures)
+unfolding Works
+returns c =
+    let q = c .before .before .before .before .before .before .before .before .before .before .before .before .before in
+    let o = q .before .before .before in
+    c .before .before .before .before .before .work-by .ensures (o .args .t1)
+    (record { layout = refl; lost = refl; machines = refl; first = refl; second = refl; third = refl; wire = refl; all = live-long o })
+    (placed q)
 
 pub work-spec : {M : Type 1} → statement M
 work-spec =
     tie.close
     (tie.spec
-    judge-chare-requires
-    returns
-    mul-m
-    element-copy-out-m
-    next-entry-requires
-    enum-told
-    enum-known-e
-    work-on-requires
-    returns-2
-    returns-3)
+    places-of-requires
+    cast-i
+    cast-j
+    cast-k
+    mul-x
+    element-copy-out-x
+    mul-y
+    element-copy-out-y
+    mul-z
+    element-copy-out-z
+    work-by-requires
+    mul-two
+    element-set-from-two
+    mul-one
+    element-set-from-one
+    mul-own
+    element-set-from-own
+    returns)

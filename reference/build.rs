@@ -1,4 +1,4 @@
-//! Links the proved engine, a static library.
+//! With the feature `engine`: links the proved engine, a static library.
 
 use std::env;
 use std::path::PathBuf;
@@ -6,7 +6,7 @@ use std::path::PathBuf;
 fn main() {
     println!("cargo:rerun-if-changed=build.rs");
     println!("cargo:rerun-if-env-changed=SATUPHIR_LIB");
-    if env::var_os("CARGO_FEATURE_WITHOUT_ENGINE").is_some() {
+    if env::var_os("CARGO_FEATURE_ENGINE").is_none() {
         return;
     }
     let folder = match env::var_os("SATUPHIR_LIB") {
@@ -19,8 +19,8 @@ fn main() {
     let library = folder.join("libsatuphir.a");
     if !library.is_file() {
         println!(
-            "cargo:warning=no library {}: name its folder in SATUPHIR_LIB, \
-                    or build with --features without-engine",
+            "cargo:warning=no library {}: write it with `rt staticlib satuphir`, \
+             or name its folder in SATUPHIR_LIB",
             library.display()
         );
     }

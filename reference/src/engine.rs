@@ -1,0 +1,32 @@
+//! The proved engine, called through its static library. It shares no code with the second implementation.
+
+extern "C" {
+    /// Writes the whole output for a whole input and returns its length, or the largest number where there is no room for it.
+    fn satuphir_transcript(
+        input: *const u8,
+        input_len: usize,
+        out: *mut u8,
+        out_len: usize,
+    ) -> usize;
+}
+
+/// No line is longer than this, newline included: a show has 14 digits.
+const LINE_SPACE: usize = 15;
+
+/// The engine's output for a whole input, written into `out`; its length, if there is room.
+pub fn write_transcript(input: &[u8], out: &mut [u8]) -> Option<usize> {
+    // Sound: both places are given with their own lengths, and the engine keeps neither.
+    let len = unsafe {
+        satuphir_transcript(input.as_ptr(), input.len(), out.as_mut_ptr(), out.len())
+    };
+    (len != usize::MAX).then_some(len)
+}
+
+/// The engine's output for a whole input.
+pub fn transcript(input: &[u8]) -> Vec<u8> {
+    let lines = input.iter().filter(|&&b| b == b'\n').count() + 1;
+    let mut out = vec![0; LINE_SPACE * lines];
+    let len = write_transcript(input, &mut out).expect("15 bytes a line are enough");
+    out.truncate(len);
+    out
+}

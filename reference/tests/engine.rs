@@ -1,0 +1,65 @@
+//! The proved engine, linked as a library, gives the second implementation's bytes.
+
+use reference::engine::{transcript, write_transcript};
+use reference::generator::list;
+use reference::long::{limit_list, Limit};
+use reference::reader::answer_all;
+use std::fs;
+use std::path::Path;
+
+fn same(name: &str, input: &[u8]) {
+    let (want, got) = (answer_all(input), transcript(input));
+    if got != want {
+        let line = want.iter().zip(&got).take_while(|(w, g)| w == g).filter(|(&w, _)| w == b'\n');
+        panic!("{name}: the answers differ at line {}", line.count() + 1);
+    }
+}
+
+#[test]
+fn vectors() {
+    let folder = Path::new(env!("CARGO_MANIFEST_DIR")).join("tests/vectors");
+    for number in 1..=27 {
+        let input = fs::read(folder.join(format!("{number:02}.in"))).unwrap();
+        same(&format!("list {number:02}"), &input);
+    }
+}
+
+#[test]
+fn random_lists() {
+    for seed in 1..=300 {
+        same(&format!("seed {seed}"), &list(seed, 400));
+    }
+}
+
+#[test]
+fn limits() {
+    for limit in Limit::ALL {
+        same(limit.name(), &limit_list(limit));
+    }
+}
+
+#[test]
+fn bytes_of_any_kind() {
+    same("nothing", b"");
+    same("one empty line", b"\n");
+    same("no last newline", b"1601");
+    same("carriage returns", b"1601\r\n12\r\n");
+    same("zeros", &[0; 5000]);
+    same("a long line", &[b'1'; 100_000]);
+    let mut x = 1u32;
+    let noise = std::iter::repeat_with(|| {
+        x = x.wrapping_mul(1_664_525).wrapping_add(1_013_904_223);
+        (x >> 24) as u8
+    });
+    same("noise", &noise.take(200_000).collect::<Vec<u8>>());
+}
+
+#[test]
+fn a_buffer_that_is_too_small() {
+    let input = list(1, 50);
+    let whole = answer_all(&input);
+    let mut out = vec![b'.'; whole.len() / 2];
+    assert_eq!(write_transcript(&input, &mut out), None);
+    let written = out.iter().take_while(|&&b| b != b'.').count();
+    assert_eq!(out[..written], whole[..written]);
+}
