@@ -1,44 +1,44 @@
--- The parts of a checkpoint, on the maps that they change.
-use mathlib.Core.Path.{_≡_, refl, sym, ap, _∙_}
-use mathlib.Core.Bool.{Bool, true, false, cond}
+-- The parts of a checkpoint, chare by chare.
+use mathlib.Core.Path.{_≡_}
+use mathlib.Core.Bool.{Bool, false, cond, not, _&&_, _||_}
 use mathlib.Core.List.{List}
-use Prim.Native.Nat.{ℕ, _≤_}
-use lib.ListN.{length, getD}
+use Prim.Native.Nat.{ℕ}
+use lib.Dec.{eqb, leb}
+use lib.ListN.{length}
 use Rattle.lists.specs.Lists.{keep}
+use Rattle.arrays.specs.ArrayMap.{as-map}
 use Rattle.protocol.specs.declared.Logged.{Logged}
 use Rattle.protocol.specs.declared.Status.{Status}
-use Rattle.protocol.specs.Parts.{Job, Memory, with-log, blank}
-use Rattle.state.specs.View.{memory-view, memories, no-memory}
+use Rattle.protocol.specs.Parts.{Job, Memory, with-log}
+use Rattle.protocol.specs.Checkpoint.{pruned}
+use Rattle.log.specs.Log.{is-kept}
+use Rattle.layout.specs.declared.Layout.{Layout}
+use Rattle.layout.specs.View.{layout-view}
+use Rattle.state.specs.declared.Machine.{Machine}
+use Rattle.state.specs.View.{memory-view, statuses}
 use Rattle.machines.specs.Asking.{runs}
-use Rattle.machines.specs.Beyond.{memories-at, memories-beyond}
+use Rattle.checkpoints.specs.declared.Visited.{Visited}
 use Rattle.state.specs.declared.Memory as code
 
 -- a memory whose log keeps what passes a test
 unfoldable pub cleaned : (Logged → Bool) → Memory → Memory
 cleaned passes m = with-log m (keep passes (m .log))
 
--- the logs at the desk and on machines that are up
-unfoldable pub clean-all : Job → (ℕ → Status) → (Logged → Bool) → (ℕ → Memory) → ℕ → Memory
-clean-all j status passes live c = let m = live c in cond (runs status (j .home c)) (cleaned passes m) m
+-- chare c, with memory m, has something to do: past the chares nothing is known
+unfoldable pub touches : Job → (ℕ → Status) → (ℕ → Bool) → ℕ → Memory → Bool
+touches j status which c m = leb 13 c || which c || (not (eqb (length (m .log)) 0) && runs status (j .home c))
 
--- what the code finds at chare c: its home h is up or not
-module _ (j : Job) (status : ℕ → Status) (passes : Logged → Bool) (l : List code.Memory) (c h : ℕ) (is-h : h ≡ j .home c) (u : Bool) (is-u : u ≡ runs status h) where
-  test : runs status (j .home c) ≡ u
-  test = sym (is-u ∙ ap (runs status) is-h)
+-- the copy afterwards: made anew from the memory, if the chare is on the machine
+unfoldable pub visited-copy : (ℕ → Bool) → ℕ → Memory → Memory → Memory
+visited-copy which c live copy = cond (which c) (pruned live) copy
 
-  pub clean-up : u ≡ true → (m : Memory) → m ≡ cleaned passes (memory-view (getD l c no-memory)) → m ≡ clean-all j status passes (memories l) c
-  unfolding clean-all
-  clean-up e m q = q ∙ rw (test ∙ e, memories-at l c)
+-- the memory afterwards: pruned, if the chare is on the machine; then its log is cleaned, if it is the desk's or on a machine that is up
+unfoldable pub visited-live : Job → (ℕ → Status) → (Logged → Bool) → (ℕ → Bool) → ℕ → Memory → Memory
+visited-live j status passes which c live =
+    let m = visited-copy which c live live in
+    cond (runs status (j .home c)) (cleaned passes m) m
 
-  pub clean-down : u ≡ false → clean-all j status passes (memories l) c ≡ memories l c
-  unfolding clean-all
-  clean-down e = rw (test ∙ e)
-
--- there is nothing to clean past the arrays' ends
-pub clean-beyond : (j : Job) (status : ℕ → Status) (passes : Logged → Bool) (l : List code.Memory) (c : ℕ) → length l ≤ c → clean-all j status passes (memories l) c ≡ memories l c
-unfolding clean-all cleaned blank keep
-clean-beyond j status passes l c h = rw (memories-beyond l c h) (go (runs status (j .home c)))
-  where
-    go : (b : Bool) → cond b (cleaned passes blank) blank ≡ blank
-    go true = refl
-    go false = refl
+-- r has both, from the memory x and the copy k
+pub record Visits (l : Layout) (m : List Machine) (heights : List ℕ) (which : List Bool) (c : ℕ) (x k : code.Memory) (r : Visited) : Type 0 where
+  pub live : memory-view (r .live) ≡ visited-live (layout-view l) (statuses m) (is-kept (as-map false which) (as-map 0 heights)) (as-map false which) c (memory-view x)
+  pub copy : memory-view (r .copy) ≡ visited-copy (as-map false which) c (memory-view x) (memory-view k)

@@ -2,17 +2,16 @@
 ghost use mathlib.Core.Path.{_≡_};
 ghost use mathlib.Core.Bool.{false, _&&_};
 ghost use Prim.Native.Nat.{_≤_};
-ghost use Rattle.lists.specs.Lists.{keep};
 ghost use Rattle.arrays.specs.ArrayMap.{as-map};
 ghost use Rattle.protocol.specs.Checkpoint.{pruned, checkpoint};
 ghost use Rattle.protocol.specs.Questions.{checkpoint-questions};
 ghost use Rattle.log.specs.Log.{is-kept};
 ghost use Rattle.layout.specs.View.{layout-view};
-ghost use Rattle.state.specs.View.{memory-view, memories, statuses, view};
+ghost use Rattle.state.specs.View.{memory-view, statuses, view};
 ghost use Rattle.state.specs.Outcome.{outcome-view, tried};
-ghost use Rattle.machines.specs.Chosen.{chosen};
 ghost use Rattle.machines.specs.Asking.{runs};
-ghost use Rattle.checkpoints.specs.Parts.{cleaned, clean-all};
+ghost use Rattle.checkpoints.specs.Parts.{cleaned, touches, Visits};
+ghost use Rattle.checkpoints.specs.Whole.{Judges};
 use layout::Layout;
 use protocol::Answer;
 use state::Machine;
@@ -31,41 +30,6 @@ fn pruned(m: Memory) -> Memory
     r
 }
 
-// The chosen tables are pruned.
-fn prune_all(l: [Memory; 13], which: [bool; 13]) -> [Memory; 13]
-    ensures { λ r. ⌜ memories r ≡ chosen (as-map false which) (λ c. pruned (memories l c)) (memories l) ⌝ }
-{
-    let mut r = l;
-    let mut i = 0;
-    while i < 13 {
-        let c = i;
-        i += 1;
-        if which[c] {
-            let m = l[c];
-            let n = pruned(m);
-            r[c] = n;
-        }
-    }
-    r
-}
-
-// The chosen memories are copied.
-fn copy_all(from: [Memory; 13], to: [Memory; 13], which: [bool; 13]) -> [Memory; 13]
-    ensures { λ r. ⌜ memories r ≡ chosen (as-map false which) (memories from) (memories to) ⌝ }
-{
-    let mut r = to;
-    let mut i = 0;
-    while i < 13 {
-        let c = i;
-        i += 1;
-        if which[c] {
-            let m = from[c];
-            r[c] = m;
-        }
-    }
-    r
-}
-
 // The log without the messages to `drops` that have a TN below the receiver's height.
 fn cleaned(m: Memory, heights: [u16; 13], drops: [bool; 13]) -> Memory
     ensures { λ r. ⌜ memory-view r ≡ cleaned (is-kept (as-map false drops) (as-map 0 heights)) (memory-view m) ⌝ }
@@ -77,30 +41,59 @@ fn cleaned(m: Memory, heights: [u16; 13], drops: [bool; 13]) -> Memory
     r
 }
 
-// Every log at the desk or on a machine that is up is cleaned.
-fn clean_all(
-    live: [Memory; 13],
+// What a checkpoint leaves of a chare's memory and of its copy.
+pub struct Visited {
+    pub live: Memory,
+    pub copy: Memory,
+}
+
+// Chare `c` has something to do at a checkpoint: it is on the machine, or its log is on a machine that is up, or the desk's, and holds
+// something.
+pub fn touches(l: Layout, m: [Machine; 7], which: [bool; 13], c: u8, live: Memory) -> bool
+    ensures { λ r. ⌜ r ≡ touches (layout-view l) (statuses m) (as-map false which) c (memory-view live) ⌝ }
+{
+    let i = c as usize;
+    if 13 <= i {
+        return true;
+    }
+    if which[i] {
+        return true;
+    }
+    let g = live.log;
+    if log::count(g) == 0 {
+        return false;
+    }
+    machines::is_up(m, layout::home(l, c))
+}
+
+// The part of a checkpoint that is chare `c`'s: if it is on the machine, its table is pruned and its copy made anew; then its log, if it
+// is the desk's or on a machine that is up, drops what the copies cover.
+pub fn visit(
     l: Layout,
     m: [Machine; 7],
     heights: [u16; 13],
-    drops: [bool; 13],
-) -> [Memory; 13]
-    ensures { λ r. ⌜ memories r ≡ clean-all (layout-view l) (statuses m) (is-kept (as-map false drops) (as-map 0 heights)) (memories live) ⌝ }
+    which: [bool; 13],
+    c: u8,
+    live: Memory,
+    copy: Memory,
+) -> Visited
+    ensures { λ r. ⌜ Visits l m heights which c live copy r ⌝ }
 {
-    let mut r = live;
-    let mut i = 0;
-    while i < 13 {
-        let c = i;
-        i += 1;
-        let h = layout::home(l, c);
-        if machines::is_up(m, h) {
-            let k = c as usize;
-            let x = live[k];
-            let n = cleaned(x, heights, drops);
-            r[k] = n;
+    let mut x = live;
+    let mut k = copy;
+    let i = c as usize;
+    if i < 13 {
+        if which[i] {
+            let y = pruned(x);
+            x = y;
+            k = y;
         }
     }
-    r
+    if machines::is_up(m, layout::home(l, c)) {
+        let y = cleaned(x, heights, which);
+        x = y;
+    }
+    Visited { live: x, copy: k }
 }
 
 // Two machines are up.
@@ -113,29 +106,46 @@ fn both_up(m: [Machine; 7], p: u8, q: u8) -> bool
     machines::is_up(m, q)
 }
 
-// The parts of a checkpoint, in the rule book's order.
+// The questions of a checkpoint: the first "no", or 0.
+pub fn judge(l: Layout, lost: bool, m: [Machine; 7], p: u8) -> u8
+    ensures { λ r. ⌜ Judges l lost m p r ⌝ }
+{
+    let b = layout::buddy(l, p);
+    machines::first_no(l.set, layout::is_machine(l, p), lost, both_up(m, p, b))
+}
+
+// The parts of a checkpoint, chare by chare; then the buddy has the copy and no notes.
 fn checkpointed(s: State, p: u8) -> State
     requires { ⌜ (1 ≤ p) × (p ≤ 6) ⌝ }
     ensures { λ r. ⌜ view r ≡ checkpoint (view s) p ⌝ }
 {
     let l = s.layout;
-    let which = machines::on_machine(l, p);
-    let old = s.live;
-    let first = prune_all(old, which);
-    let was = s.copy;
-    let copy = copy_all(first, was, which);
-    let heights = machines::heights(first);
     let m = s.machines;
-    let live = clean_all(first, l, m, heights, which);
-    let i = p as usize;
-    let k = m[i];
+    let live = s.live;
+    let heights = machines::heights(live);
+    let which = machines::on_machine(l, p);
+    let mut r = s;
+    let mut n = 0;
+    while n < 13 {
+        let c = n;
+        n += 1;
+        let i = c as usize;
+        let x = r.live[i];
+        if touches(l, m, which, c, x) {
+            let k = r.copy[i];
+            let v = visit(l, m, heights, which, c, x, k);
+            let y = v.live;
+            let z = v.copy;
+            r.live[i] = y;
+            r.copy[i] = z;
+        }
+    }
+    let q = p as usize;
+    let k = m[q];
     let status = k.status;
     let none = notes::empty();
-    let mut r = s;
-    r.live = live;
-    r.copy = copy;
-    r.machines[i] = Machine { status, held: true };
-    r.notes[i] = none;
+    r.machines[q] = Machine { status, held: true };
+    r.notes[q] = none;
     r
 }
 
@@ -145,8 +155,7 @@ pub fn checkpoint(s: State, p: u8) -> Stepped
 {
     let l = s.layout;
     let m = s.machines;
-    let b = layout::buddy(l, p);
-    let n = machines::first_no(l.set, layout::is_machine(l, p), s.lost, both_up(m, p, b));
+    let n = judge(l, s.lost, m, p);
     if n != 0 {
         return Stepped {
             state: s,

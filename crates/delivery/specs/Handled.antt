@@ -3,7 +3,7 @@ use mathlib.Core.Path.{_≡_}
 use mathlib.Core.Bool.{Bool, cond}
 use mathlib.Core.List.{List}
 use Prim.Native.Nat.{ℕ}
-use lib.Dec.{eqb, ltb}
+use lib.Dec.{eqb}
 use Rattle.layout.specs.declared.Layout.{Layout}
 use Rattle.layout.specs.View.{layout-view}
 use Rattle.notes.specs.declared.Notes.{Notes}
@@ -13,13 +13,14 @@ use Rattle.state.specs.declared.Machine.{Machine}
 use Rattle.state.specs.declared.State.{State}
 use Rattle.state.specs.View.{view}
 use Rattle.state.specs.Outcome.{outcome-view}
+use Rattle.state.specs.Number.{number}
 use Rattle.state.specs.PutBack.{put-back, Sees}
 use Rattle.delivery.specs.declared.Handled.{Handled}
 use Rattle.delivery.specs.Judged.{the-outcome}
 
 -- the index of the memory that a packet is for; 0 where there is no such chare
 unfoldable pub place-index : ℕ → ℕ → ℕ → ℕ
-place-index k a r = let c = cond (eqb k 2) a r in cond (ltb c 13) c 0
+place-index k a r = number (cond (eqb k 2) a r)
 
 -- every state that has those parts becomes, with what r has put back, the state after the frame
 unfoldable pub Handles : Layout → Bool → List Machine → Memory → Notes → Wire → ℕ → ℕ → ℕ → ℕ → Handled → Type 0

@@ -21,14 +21,13 @@ use Rattle.wire.specs.View.{packets}
 use Rattle.delivery.specs.More.{remove1-length}
 use Rattle.delivery.specs.Effect.{place-of}
 use Rattle.delivery.specs.Frame.{in-range}
+use Rattle.state.specs.Number.{number, number-top}
 use Rattle.delivery.specs.Handled.{place-index}
 
 -- an index for any numbers
 pub place-top : (k a r : ℕ) → place-index k a r < 13
 unfolding place-index
-place-top k a r =
-    let c = cond (eqb k 2) a r in
-    split (λ b. cond b c 0 < 13) (ltb c 13) (λ e. ltb-true c 13 e) (λ _. omega arith)
+place-top k a r = number-top (cond (eqb k 2) a r)
 
 module _ (k a r n : ℕ) (p : Packet) (named : is-named k a r n p ≡ true) where
   pub receiver-named : r ≡ p .receiver
@@ -39,7 +38,7 @@ module _ (k a r n : ℕ) (p : Packet) (named : is-named k a r n p ≡ true) wher
 
   -- both numbers in range are indices
   pub place-named : (j : Job) → j .chares ≤ 12 → in-range j k a r n ≡ true → place-index k a r ≡ place-of p (p .content)
-  unfolding is-named in-range between place-index place-of
+  unfolding is-named in-range between place-index number place-of
   place-named j top range =
       let f = and4 (between 1 5 k) (leb a (j .chares)) (between 1 (j .chares) r) (between 1 60000 n) range in
       let g = and4 (eqb (kind (p .content)) k) (eqb (p .sender) a) (eqb (p .receiver) r) (eqb (p .sn) n) named in

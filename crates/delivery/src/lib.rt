@@ -69,7 +69,7 @@ pub fn place(kind: u8, sender: u8, receiver: u8) -> usize
     ensures { λ r. ⌜ r ≡ place-index kind sender receiver ⌝ }
 {
     let c = if kind == 2 { sender } else { receiver };
-    if c < 13 { c as usize } else { 0 }
+    state::number(c) as usize
 }
 
 // The wire with an answer under the packet's own name.

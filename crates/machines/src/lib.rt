@@ -17,7 +17,7 @@ ghost use Rattle.log.specs.Log.{has-ticket};
 ghost use Rattle.state.specs.View.{memory-view, memories, statuses, view};
 ghost use Rattle.state.specs.Outcome.{outcome-view, tried};
 ghost use Rattle.machines.specs.Homes.{residents};
-ghost use Rattle.machines.specs.Shown.{shown};
+ghost use Rattle.machines.specs.Shown.{shown, Shows};
 ghost use Rattle.machines.specs.Settle.{calm, passes, Settles, Runs};
 ghost use Rattle.machines.specs.Chosen.{chosen};
 ghost use Rattle.machines.specs.Asking.{first-no, runs};
@@ -209,29 +209,31 @@ pub fn job(s: State, line: &[u8]) -> Stepped
     }
 }
 
+// What a chare shows, by the parts of the state: `x` is the memory at its number.
+pub fn show_by(l: Layout, lost: bool, machines: [Machine; 7], x: Memory, c: u8) -> Answer
+    ensures { λ r. ⌜ Shows l lost machines x c r ⌝ }
+{
+    let h = layout::home(l, c);
+    let n = first_no(l.set, layout::is_chare(l, c), lost, is_up(machines, h));
+    if n != 0 {
+        return Answer::Refused(n);
+    }
+    Answer::Shown {
+        height: x.height,
+        state: x.state,
+    }
+}
+
 // Frame 16.
 pub fn show(s: State, c: u8) -> Stepped
     ensures { λ r. ⌜ outcome-view r ≡ judged (view s) (asks 2 (show-questions (view s) c) (shown (view s) c)) ⌝ }
 {
     let l = s.layout;
     let m = s.machines;
-    let h = layout::home(l, c);
-    let n = first_no(l.set, layout::is_chare(l, c), s.lost, is_up(m, h));
-    if n != 0 {
-        return Stepped {
-            state: s,
-            answer: Answer::Refused(n),
-        };
-    }
-    let i = c as usize;
+    let i = state::number(c) as usize;
     let x = s.live[i];
-    Stepped {
-        state: s,
-        answer: Answer::Shown {
-            height: x.height,
-            state: x.state,
-        },
-    }
+    let answer = show_by(l, s.lost, m, x, c);
+    Stepped { state: s, answer }
 }
 
 // Machine `p` is not catching up and, if asked strictly, not down.

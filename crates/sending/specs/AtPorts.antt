@@ -13,11 +13,8 @@ use Rattle.layout.specs.ViewLaws.{first-top, second-top}
 use Rattle.sending.specs.declared.Places.{Places}
 use Rattle.sending.specs.Plan.{is-port}
 use Rattle.sending.specs.Trio.{In}
-use Rattle.sending.specs.ByParts.{number, places-of, AtPorts}
-
-pub number-top : (c : ℕ) → number c < 13
-unfolding number
-number-top c = either (ltb c 13) (λ e. rw e (ltb-true c 13 e)) (λ e. rw e (omega arith))
+use Rattle.sending.specs.ByParts.{places-of, AtPorts}
+use Rattle.state.specs.Number.{number, number-top}
 
 module _ (l : Layout) (c : ℕ) (p : Places) (at : AtPorts l c p) where
   pub first-in : p .a < 13

@@ -1,9 +1,8 @@
 -- Frames 10 and 12 by the parts of a state that they read and change.
 use mathlib.Core.Path.{_≡_}
-use mathlib.Core.Bool.{Bool, cond}
+use mathlib.Core.Bool.{Bool}
 use mathlib.Core.List.{List}
 use Prim.Native.Nat.{ℕ}
-use lib.Dec.{ltb}
 use lib.ListN.{length, getD, set}
 use Rattle.protocol.specs.Parts as parts
 use Rattle.protocol.specs.Sending.{send}
@@ -18,6 +17,7 @@ use Rattle.state.specs.declared.Machine.{Machine}
 use Rattle.state.specs.declared.State.{State}
 use Rattle.state.specs.View.{view, no-memory}
 use Rattle.state.specs.Outcome.{outcome-view, tried}
+use Rattle.state.specs.Number.{number}
 use Rattle.state.specs.PutBack.{put-back, Sees}
 use Rattle.sending.specs.declared.Places.{Places}
 use Rattle.sending.specs.declared.Trio.{Trio}
@@ -38,10 +38,6 @@ Injects l b m w c value hops r =
     → outcome-view (record { state = put-back s 0 (r .desk) h n (r .wire); answer = r .answer }) ≡ tried (view s) (inject-questions (view s) c value hops) (send (view s) 0 c value hops)
 
 -- ---- frame 12
--- a chare's number; 0 where there can be none such
-unfoldable pub number : ℕ → ℕ
-number c = cond (ltb c 13) c 0
-
 unfoldable pub places-of : parts.Job → ℕ → Places
 places-of j c = record { a = number c; b = j .first c; c = j .second c }
 

@@ -25,7 +25,7 @@ ghost use Rattle.sending.specs.Works.{WorkedAs, worked-state, tried-work
 ghost use Rattle.sending.specs.Plan.{idle, new-plan, plan-for, plan-next, last-after, base-after, extra-after, Listed};
 ghost use Rattle.sending.specs.Verdict.{verdict};
 ghost use Rattle.sending.specs.Trio.{member, with-member, In, trio-view, acted-view};
-ghost use Rattle.sending.specs.ByParts.{JudgesInject, Injects, number, places-of, AtPorts, Works};
+ghost use Rattle.sending.specs.ByParts.{JudgesInject, Injects, places-of, AtPorts, Works};
 use layout::Layout;
 use protocol::Answer;
 use protocol::Content;
@@ -735,13 +735,6 @@ fn next_entry(m: Memory) -> FoundEntry
     table::find_tn(t, m.height + 1)
 }
 
-// The number of a chare, or 0 where there can be none such: an index of the memories.
-fn number(chare: u8) -> u8
-    ensures { λ r. ⌜ r ≡ number chare ⌝ }
-{
-    if chare < 13 { chare } else { 0 }
-}
-
 // A chare works the message of its next TN, by the parts of the state: the places are the chare's and its ports'.
 pub fn work_by(
     layout: Layout,
@@ -775,7 +768,7 @@ pub fn places_of(l: Layout, chare: u8) -> Places
     ensures { λ r. ⌜ r ≡ places-of (layout-view l) chare ⌝ }
 {
     Places {
-        a: number(chare),
+        a: state::number(chare),
         b: layout::first(l, chare),
         c: layout::second(l, chare),
     }

@@ -1,19 +1,22 @@
-// Plays the lists that its arguments name, and writes each name and then the answers. The buffers are small and of odd sizes, so that
-// lines and answers fall across their ends.
+// Plays the lists that its arguments name, each whole, and writes each name and then the answers.
 use libc::STDOUT_FILENO;
 
+// A list has to fit the buffer; of a longer one the beginning is played.
 fn list(name: &[u8]) {
     let fd = os::open_read(name);
     if fd < 0 {
         os::fail(name);
         return;
     }
+    let mut input = io::large_buffer();
+    let n = io::read_full(fd, &mut input);
+    libc::close(fd);
+    let mut out = io::large_buffer();
+    let e = transcript::whole(&input[..n], &mut out);
+    let written = e.written;
     io::write_all(STDOUT_FILENO, name);
     io::write_all(STDOUT_FILENO, b"\n");
-    let mut input = [0u8; 61];
-    let mut out = [0u8; 67];
-    player::play(fd, &mut input, &mut out);
-    libc::close(fd);
+    io::write_all(STDOUT_FILENO, &out[..written]);
 }
 
 fn argument(i: usize) {

@@ -1,4 +1,6 @@
 // Everything that job, machines, wire and copies hold, by value. Index 0 of `live` is the desk; of the machines it is not used.
+ghost use mathlib.Core.Path.{_≡_};
+ghost use Rattle.state.specs.Number.{number};
 use layout::Layout;
 use log::Log;
 use notes::Notes;
@@ -38,4 +40,11 @@ pub struct State {
 pub struct Stepped {
     pub state: State,
     pub answer: Answer,
+}
+
+// A chare's number, or 0 where there can be none such: an index of the memories.
+pub fn number(c: u8) -> u8
+    ensures { λ r. ⌜ r ≡ number c ⌝ }
+{
+    if c < 13 { c } else { 0 }
 }

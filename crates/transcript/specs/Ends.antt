@@ -38,6 +38,9 @@ fed-fits r input room f out h same = fits (output r (take (f .taken) input)) out
 pub ended-fits : (r : Reading) (room : List ℕ) (e : Ended) (out : List ℕ) → Ending r room e out → length out ≡ length room → e .written ≤ length room
 ended-fits r room e out h same = fits (end-output (length room) r) out room (e .written) (h .written) (h .bytes) same
 
+pub whole-fits : (input room : List ℕ) (e : Ended) (out : List ℕ) → Transcribed input room e out → length out ≡ length room → e .written ≤ length room
+whole-fits input room e out h same = fits (whole-output (length room) input) out room (e .written) (h .written) (h .bytes) same
+
 -- ---- whether a line is under way
 pub none-begun : (r : Reader) → r .len ≡ 0 → is-empty (reading r .line) ≡ true
 unfolding reading is-empty

@@ -6,6 +6,7 @@ pub mod LineWise
 pub mod Copies
 pub mod Printed
 pub mod Feeding
+pub mod InPlace
 pub mod View
 pub mod Ends
 pub mod Room

@@ -7,7 +7,9 @@ ghost use Rattle.transcript.specs.Reading.{beginning, printed};
 ghost use Rattle.transcript.specs.LineWise.{line-end};
 ghost use Rattle.transcript.specs.Copies.{put-at};
 ghost use Rattle.transcript.specs.View.{reading, Feeding, Ending, Transcribed};
+use frames::Frame;
 use protocol::Answer;
+use sending::Trio;
 use state::State;
 
 // The state, and the first bytes of the line under way. A line longer than any frame is cut, and stays longer than any frame.
@@ -121,10 +123,98 @@ pub fn feed(r: Reader, input: &[u8], out: &mut [u8]) -> Fed
                 written,
             };
         }
-        let stepped = engine::step(state, &line[..len]);
-        let answer = stepped.answer;
-        let next = stepped.state;
-        state = next;
+        // A step in place: the state by value would be copied some times for each frame, so the frequent frames take out and put back
+        // only the parts that they change.
+        let f = frames::read(&line[..len]);
+        let layout = state.layout;
+        let lost = state.lost;
+        let machines = state.machines;
+        let mut answer = Answer::Accepted;
+        match f {
+            Frame::Inject { chare, value, hops } => {
+                let x = state.live[0];
+                let w = state.wire;
+                let r = sending::inject_by(layout, lost, x, w, chare, value, hops);
+                let desk = r.desk;
+                let wire = r.wire;
+                state.live[0] = desk;
+                state.wire = wire;
+                let a = r.answer;
+                answer = a;
+            }
+            Frame::Deliver {
+                kind,
+                sender,
+                receiver,
+                sn,
+            } => {
+                let i = delivery::place(kind, sender, receiver);
+                let h = layout::home(layout, receiver) as usize;
+                let m = state.live[i];
+                let n = state.notes[h];
+                let w = state.wire;
+                let r = delivery::handle(
+                    layout,
+                    lost,
+                    machines,
+                    m,
+                    n,
+                    w,
+                    kind,
+                    sender,
+                    receiver,
+                    sn,
+                );
+                let memory = r.memory;
+                let notes = r.notes;
+                let wire = r.wire;
+                state.live[i] = memory;
+                state.notes[h] = notes;
+                state.wire = wire;
+                let a = r.answer;
+                answer = a;
+            }
+            Frame::Work(chare) => {
+                let p = sending::places_of(layout, chare);
+                let i = p.a as usize;
+                let j = p.b as usize;
+                let k = p.c as usize;
+                let x = state.live[i];
+                let y = state.live[j];
+                let z = state.live[k];
+                let wire = state.wire;
+                let r = sending::work_by(layout, lost, machines, p, Trio { x, y, z, wire }, chare);
+                let t = r.trio;
+                let own = t.x;
+                let one = t.y;
+                let two = t.z;
+                let w = t.wire;
+                state.live[k] = two;
+                state.live[j] = one;
+                state.live[i] = own;
+                state.wire = w;
+                let a = r.answer;
+                answer = a;
+            }
+            _ => {
+                let r = engine::act(state, f, &line[..len]);
+                let next = r.state;
+                state = next;
+                let a = r.answer;
+                answer = a;
+            }
+        }
+        let now = state.machines;
+        if engine::must_settle(answer, now) {
+            let l = state.layout;
+            let target = state.target;
+            let live = state.live;
+            let q = machines::settled(l, now, target, live);
+            let m = q.machines;
+            let t = q.target;
+            state.machines = m;
+            state.target = t;
+        }
         written += put(out, written, answer);
         taken = end + 1;
         len = 0;

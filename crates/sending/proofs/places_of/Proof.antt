@@ -2,11 +2,6 @@ use Rattle.sending.specs.ByParts.{places-of}
 use borrow.Author.Needs.{needs}
 use Rattle.sending.proofs.places_of.Statement.{statement}
 use Rattle.sending.proofs.places_of.Tie as tie
-use Rattle.sending.proofs.places_of.Reads as reads
-use Rattle.sending.proofs.places_of.Lts as lts
-use Rattle.layout.proofs.first.Reads as first-reads
-use Rattle.layout.proofs.second.Reads as second-reads
-use Rattle.sending.proofs.number.Reads as number-reads
 
 number-requires : tie.Need-number-requires
 number-requires c κs = search needs

@@ -1,19 +1,23 @@
--- `feed` reads as the byte-wise reader does, line by line. The invariant: it is the reader that was fed the bytes taken.
+-- `feed` reads as the byte-wise reader does, line by line, and steps in place. The invariant: it is the reader that was fed the bytes taken,
+-- and its state's arrays are whole.
 use mathlib.Core.List.{List, _++_}
+use mathlib.Core.Logic.{⊎-elim}
 use mathlib.Core.Path.{_≡_, sym, ap, _∙_}
 use Prim.Native.Nat.{ℕ, _+_, _-_, _≤_, _<_, min}
 use native.Mathlib.Omega.{arith}
 use borrow.Author.Needs.{needs}
 use lib.ListN.{length, take, drop, length-drop}
 use lib.Seq.{length-take-le}
+use Rattle.arrays.specs.Front.{long}
 use Rattle.protocol.specs.declared.Answer.{Answer}
-use Rattle.protocol.specs.Step.{Outcome}
 use Rattle.state.specs.declared.State.{State}
-use Rattle.state.specs.Outcome.{outcome-view}
 use Rattle.state.specs.View.{view}
-use Rattle.protocol.specs.Step.{step}
+use Rattle.delivery.specs.Named.{place-top, home-small}
+use Rattle.sending.specs.AtPorts.{first-in, second-in, third-in}
+use Rattle.sending.specs.ByParts.{AtPorts}
 use Rattle.transcript.specs.Copies.{take-min}
 use Rattle.transcript.specs.Feeding.{Fed-so-far, nothing-yet, kept-part, fed-turn, fed-stop, at-end, no-room}
+use Rattle.transcript.specs.InPlace.{Sized, Acts, Steps, by-act, by-inject, by-handle, by-work, by-rest, by-settle}
 use Rattle.transcript.specs.LineWise.{line-end, line-end-le, line-end-rest, line-part}
 use Rattle.transcript.specs.Printed.{printed-fits}
 use Rattle.transcript.specs.Reading.{line-room, within}
@@ -23,7 +27,7 @@ use Rattle.transcript.proofs.feed.Tie as tie
 
 abbrev Inv-loop : tie.InvT-loop
 Inv-loop input out₀ state₀ line₀ len₀ taken₀ written₀ out state line len taken written =
-    (len ≤ 2047) × (length line ≡ 2047) × (length out ≡ length out₀) × Fed-so-far (within (view state₀) (take len₀ line₀)) input out₀ (within (view state) (take len line)) taken written out
+    (len ≤ 2047) × (length line ≡ 2047) × (length out ≡ length out₀) × Fed-so-far (within (view state₀) (take len₀ line₀)) input out₀ (within (view state) (take len line)) taken written out × Sized state
 
 abbrev μ-loop : tie.MeasureT-loop
 μ-loop input out₀ state₀ line₀ len₀ taken₀ written₀ out state line len taken written = length input - taken
@@ -31,16 +35,36 @@ abbrev μ-loop : tie.MeasureT-loop
 -- ---- the places of a turn, from its end to its beginning
 -- where the line has been stepped
 abbrev After-the-step : Type 0
-After-the-step = tie.After-step Inv-loop μ-loop
+After-the-step = tie.Joined3 Inv-loop μ-loop
 
 abbrev put-place : tie.After-slice-known2 Inv-loop μ-loop → tie.After-put Inv-loop μ-loop
 put-place c = c .before .before
 
 abbrev step-place : tie.After-put-arg Inv-loop μ-loop → After-the-step
-step-place c = c .before .before
+step-place c = c .before
+
+-- where the arms for the frames meet
+abbrev met-place : After-the-step → tie.At-match-came Inv-loop μ-loop
+met-place c = c .before .before .before
+
+abbrev match-place : tie.At-match-came Inv-loop μ-loop → tie.After-machines Inv-loop μ-loop
+match-place c = c .before
+
+abbrev read-place : tie.After-machines Inv-loop μ-loop → tie.After-read Inv-loop μ-loop
+read-place c = c .before .before
+
+abbrev unread-place : tie.After-read Inv-loop μ-loop → tie.Else2 Inv-loop μ-loop
+unread-place c = c .before .before
 
 abbrev newline-place : After-the-step → tie.Else2 Inv-loop μ-loop
-newline-place c = c .before .before
+newline-place c = unread-place (read-place (match-place (met-place c)))
+
+-- in the arms: where the parts' places are known
+abbrev home-place : tie.After-wire2 Inv-loop μ-loop → tie.After-home Inv-loop μ-loop
+home-place c = c .before .before .before .before .before .before .before
+
+abbrev ports-place : tie.After-w3 Inv-loop μ-loop → tie.After-places-of Inv-loop μ-loop
+ports-place c = c .before .before .before .before .before .before .before .before .before .before .before .before .before
 
 abbrev keep-place : tie.Else2 Inv-loop μ-loop → tie.After-keep Inv-loop μ-loop
 keep-place c = c .before .before
@@ -102,17 +126,65 @@ kept-count c = sym (length-take-le (c .keep .result) (c .keep .last .0) (omega (
 ends : (c : tie.Else2 Inv-loop μ-loop) → let p = turn-place c .before in p .loop .taken + end-place (keep-place c) .line-end .result < length (input-of p)
 ends c = omega (arith, there (end-place (keep-place c)), c .if2 .left)
 
+-- the state before the line, and the line
+abbrev state-before : tie.Else2 Inv-loop μ-loop → State
+state-before c = turn-place c .before .loop .state
+
+abbrev line-of : tie.Else2 Inv-loop μ-loop → List ℕ
+line-of c = let k = keep-place c in take (k .keep .result) (k .keep .last .0)
+
+-- the places of the parts that a frame takes out are indices
+place-fits : (c : tie.After-place Inv-loop μ-loop) → c .place .result < 13
+place-fits c = rw (c .place .ensures) (place-top _ _ _)
+
+home-fits : (c : tie.After-home Inv-loop μ-loop) → c .home .result < 7
+home-fits c = home-small _ _ (c .home .ensures)
+
+ports-fit : (c : tie.After-places-of Inv-loop μ-loop) → let p = c .places-of .result in (p .a < 13) × (p .b < 13) × (p .c < 13)
+unfolding AtPorts
+ports-fit c = let at = c .places-of .ensures in (first-in _ _ _ at, second-in _ _ _ at, third-in _ _ _ at)
+
+-- the state that `act` gives: what owning it tells of its arrays
+acted-sized : (c : tie.After-act Inv-loop μ-loop) → Sized (c .act .result .state)
+acted-sized c =
+    let n = c .act .ok .1 .1 .0 .1 .1 .1 .1 .1 .1 in
+    record { live = search (long, needs); notes = search (long, n, needs) }
+
+-- the frame acted, whichever it is: inject, deliver, work, or another
+frame-acted : (c : tie.At-match-came Inv-loop μ-loop) → let r = read-place (match-place c) in
+    let x = unread-place r in Acts (state-before x) (line-of x) (r .read .result) (c .match .state) (c .match .answer)
+frame-acted c =
+    let x = unread-place (read-place (match-place c)) in
+    let z = turn-place x .before .loop .inv .4 in
+    ⊎-elim
+    (λ w. by-inject _ (line-of x) _ _ _ z _ _ _ (w .5 .result) (w .1 .given .1) (w .5 .ensures) (w .8) (w .9))
+    (⊎-elim
+    (λ w. by-handle _ _ _ _ _ z _ _ _ _ (w .3 .result) (w .4 .result) (w .8 .result) (w .1 .given .1) (w .3 .ensures) (w .4 .ensures) (w .8 .ensures) (w .12) (w .13))
+    (⊎-elim
+    (λ w. by-work _ _ _ _ _ z _ (w .3 .result) (w .11 .result) (w .1 .given .1) (w .3 .ensures) (w .11 .ensures) (w .17) (w .18))
+    (λ w.
+    let a : tie.After-act Inv-loop μ-loop = record { before = record { before = record { before = match-place c; match = w .0 }; line5 = w .1 }; act = w .2 } in
+    by-act _ _ _ _ _ (w .2 .result) (acted-sized a) (w .2 .ensures) (w .4) (w .5))))
+    (c .match .came)
+
 -- the state and the answer after the line: all that is used of how it was stepped
 abbrev next-state : After-the-step → State
-next-state c = c .step .result .state
+next-state c = c .if3 .state
 
 abbrev answer-of : After-the-step → Answer
-answer-of c = c .step .result .answer
+answer-of c = met-place c .match .answer
 
-line-stepped : (c : After-the-step) → let k = keep-place (newline-place c) in
-    _≡_ {A = Outcome} (record { state = view (next-state c); answer = answer-of c }) (step (view (turn-place (newline-place c) .before .loop .state)) (take (k .keep .result) (k .keep .last .0)))
-unfolding outcome-view
-line-stepped c = c .step .ensures
+-- the machines settle, or are at rest
+line-stepped : (c : After-the-step) → let x = newline-place c in Steps (state-before x) (line-of x) (next-state c) (answer-of c)
+line-stepped c =
+    let p = met-place c in
+    let a = frame-acted p in
+    let m = c .before .must-settle in
+    let read = read-place (match-place p) .read .ensures in
+    ⊎-elim
+    (λ w. by-settle _ _ _ _ _ _ read a (m .ensures) (w .0 .taken) (w .4 .result) (w .4 .ensures) _ (w .7))
+    (λ w. by-rest _ _ _ _ _ _ read a (m .ensures) (w .0 .left) _ (w .1))
+    (c .if3 .came)
 
 answer-fits : (c : tie.After-put Inv-loop μ-loop) → c .put .result ≤ 15
 answer-fits c = omega (arith, c .put .ensures .0, printed-fits (answer-of (step-place (c .before))))
@@ -121,6 +193,9 @@ line-size : (c : tie.Start Inv-loop μ-loop) → length (c .args .r .line) ≡ 2
 line-size c = search needs
 
 -- the reader that came in
+opened-sized : (c : tie.Start Inv-loop μ-loop) → Sized (c .args .r .state)
+opened-sized c = record { live = search (long, needs); notes = search (long, needs) }
+
 opened : (c : tie.At-loop Inv-loop μ-loop) → let r = start-place c .args .r in within (view (r .state)) (take (c .before .least .result) (r .line)) ≡ reading r
 unfolding reading
 opened c =
@@ -132,7 +207,7 @@ least-requires : tie.Need-least-requires Inv-loop μ-loop
 least-requires c κs = search needs
 
 loop-holds : tie.Need-loop-holds Inv-loop μ-loop
-loop-holds c = (search needs, search needs, search needs, nothing-yet _ _ _)
+loop-holds c = (search needs, search needs, search needs, nothing-yet _ _ _, opened-sized (c .before .before .before .before .before))
 
 sub-if1 : tie.Need-sub-if1 Inv-loop μ-loop
 sub-if1 c = search needs
@@ -190,11 +265,131 @@ returns-2 c =
 array-share-prefix-line : tie.Need-array-share-prefix-line Inv-loop μ-loop
 array-share-prefix-line c = search needs
 
-slice-aggregate-step : tie.Need-slice-aggregate-step Inv-loop μ-loop
-slice-aggregate-step c = kept-count (keep-place (c .before))
+slice-aggregate-read : tie.Need-slice-aggregate-read Inv-loop μ-loop
+slice-aggregate-read c = kept-count (keep-place (c .before))
 
-step-requires : tie.Need-step-requires Inv-loop μ-loop
-step-requires c κs = search needs
+read-requires : tie.Need-read-requires Inv-loop μ-loop
+read-requires c κs = search needs
+
+enum-known-f : tie.Need-enum-known-f Inv-loop μ-loop
+enum-known-f c = search needs
+
+element-copy-out-x : tie.Need-element-copy-out-x Inv-loop μ-loop
+element-copy-out-x c = search needs
+
+inject-by-requires : tie.Need-inject-by-requires Inv-loop μ-loop
+inject-by-requires c κs = search needs
+
+element-set-from-desk : tie.Need-element-set-from-desk Inv-loop μ-loop
+element-set-from-desk c = search needs
+
+enum-known-f-2 : tie.Need-enum-known-f-2 Inv-loop μ-loop
+enum-known-f-2 c = search needs
+
+place-requires : tie.Need-place-requires Inv-loop μ-loop
+place-requires c κs = search needs
+
+home-requires : tie.Need-home-requires Inv-loop μ-loop
+home-requires c κs = search needs
+
+cast-h : tie.Need-cast-h Inv-loop μ-loop
+cast-h c = search needs
+
+mul-m : tie.Need-mul-m Inv-loop μ-loop
+mul-m c = let h = place-fits (c .before) in search needs
+
+element-copy-out-m : tie.Need-element-copy-out-m Inv-loop μ-loop
+element-copy-out-m c = place-fits (c .before)
+
+mul-n : tie.Need-mul-n Inv-loop μ-loop
+mul-n c = search needs
+
+element-copy-out-n : tie.Need-element-copy-out-n Inv-loop μ-loop
+element-copy-out-n c = home-fits (c .before)
+
+handle-requires : tie.Need-handle-requires Inv-loop μ-loop
+handle-requires c κs = search needs
+
+mul-memory : tie.Need-mul-memory Inv-loop μ-loop
+mul-memory c = let h = place-fits (home-place c .before) in search needs
+
+element-set-from-memory : tie.Need-element-set-from-memory Inv-loop μ-loop
+element-set-from-memory c = place-fits (home-place c .before)
+
+mul-notes : tie.Need-mul-notes Inv-loop μ-loop
+mul-notes c = search needs
+
+element-set-from-notes : tie.Need-element-set-from-notes Inv-loop μ-loop
+element-set-from-notes c = home-fits (home-place c)
+
+enum-known-f-3 : tie.Need-enum-known-f-3 Inv-loop μ-loop
+enum-known-f-3 c = search needs
+
+places-of-requires : tie.Need-places-of-requires Inv-loop μ-loop
+places-of-requires c κs = search needs
+
+cast-i : tie.Need-cast-i Inv-loop μ-loop
+cast-i c = search needs
+
+cast-j : tie.Need-cast-j Inv-loop μ-loop
+cast-j c = search needs
+
+cast-k : tie.Need-cast-k Inv-loop μ-loop
+cast-k c = search needs
+
+mul-x : tie.Need-mul-x Inv-loop μ-loop
+mul-x c = search needs
+
+element-copy-out-x-2 : tie.Need-element-copy-out-x-2 Inv-loop μ-loop
+element-copy-out-x-2 c = ports-fit (c .before .before .before) .0
+
+mul-y : tie.Need-mul-y Inv-loop μ-loop
+mul-y c = search needs
+
+element-copy-out-y : tie.Need-element-copy-out-y Inv-loop μ-loop
+element-copy-out-y c = ports-fit (c .before .before .before .before) .1
+
+mul-z : tie.Need-mul-z Inv-loop μ-loop
+mul-z c = search needs
+
+element-copy-out-z : tie.Need-element-copy-out-z Inv-loop μ-loop
+element-copy-out-z c = ports-fit (c .before .before .before .before .before) .2
+
+work-by-requires : tie.Need-work-by-requires Inv-loop μ-loop
+work-by-requires c κs = search needs
+
+mul-two : tie.Need-mul-two Inv-loop μ-loop
+mul-two c = search needs
+
+element-set-from-two : tie.Need-element-set-from-two Inv-loop μ-loop
+element-set-from-two c = ports-fit (ports-place c) .2
+
+mul-one : tie.Need-mul-one Inv-loop μ-loop
+mul-one c = search needs
+
+element-set-from-one : tie.Need-element-set-from-one Inv-loop μ-loop
+element-set-from-one c = ports-fit (ports-place c) .1
+
+mul-own : tie.Need-mul-own Inv-loop μ-loop
+mul-own c = search needs
+
+element-set-from-own : tie.Need-element-set-from-own Inv-loop μ-loop
+element-set-from-own c = ports-fit (ports-place c) .0
+
+array-share-prefix-line-2 : tie.Need-array-share-prefix-line-2 Inv-loop μ-loop
+array-share-prefix-line-2 c = search needs
+
+slice-aggregate-act : tie.Need-slice-aggregate-act Inv-loop μ-loop
+slice-aggregate-act c = kept-count (keep-place (unread-place (read-place (c .before .before))))
+
+act-requires : tie.Need-act-requires Inv-loop μ-loop
+act-requires c κs = search needs
+
+must-settle-requires : tie.Need-must-settle-requires Inv-loop μ-loop
+must-settle-requires c κs = search needs
+
+settled-requires : tie.Need-settled-requires Inv-loop μ-loop
+settled-requires c κs = search needs
 
 put-requires : tie.Need-put-requires Inv-loop μ-loop
 put-requires c κs = let r = turn-place (newline-place (step-place c)) in omega (arith, roomy r, r .before .loop .inv .2)
@@ -214,11 +409,13 @@ loop-again c =
     let x = line-place c in
     let k = keep-place x in
     let r = turn-place x in
-    let l = r .before .loop in (
+    let l = r .before .loop in
+    let s = line-stepped (step-place (u .before)) in (
       omega arith,
       kept-long k,
       u .put .kept .0 ∙ l .inv .2,
-      fed-turn _ _ _ _ _ _ _ _ (l .inv .3) (roomy r) _ (kept k) _ (is-end (end-place k)) (ends x) _ (line-stepped (step-place (u .before))) _ _ (u .put .ensures .0) (u .put .ensures .1),
+      fed-turn _ _ _ _ _ _ _ _ (l .inv .3) (roomy r) _ (kept k) _ (is-end (end-place k)) (ends x) _ (s .outcome) _ _ (u .put .ensures .0) (u .put .ensures .1),
+      s .sized,
     )
 
 pub feed-spec : {M : Type 1} → statement M
@@ -245,8 +442,48 @@ feed-spec =
     same-length-2
     returns-2
     array-share-prefix-line
-    slice-aggregate-step
-    step-requires
+    slice-aggregate-read
+    read-requires
+    enum-known-f
+    element-copy-out-x
+    inject-by-requires
+    element-set-from-desk
+    enum-known-f-2
+    place-requires
+    home-requires
+    cast-h
+    mul-m
+    element-copy-out-m
+    mul-n
+    element-copy-out-n
+    handle-requires
+    mul-memory
+    element-set-from-memory
+    mul-notes
+    element-set-from-notes
+    enum-known-f-3
+    places-of-requires
+    cast-i
+    cast-j
+    cast-k
+    mul-x
+    element-copy-out-x-2
+    mul-y
+    element-copy-out-y
+    mul-z
+    element-copy-out-z
+    work-by-requires
+    mul-two
+    element-set-from-two
+    mul-one
+    element-set-from-one
+    mul-own
+    element-set-from-own
+    array-share-prefix-line-2
+    slice-aggregate-act
+    act-requires
+    must-settle-requires
+    settled-requires
     put-requires
     add-written
     add-taken

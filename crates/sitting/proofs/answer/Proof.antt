@@ -1,4 +1,4 @@
--- `player::answer` is safe and ends: each turn takes at least a byte of the piece, or it is the last.
+-- `answer` is safe and ends: each turn takes at least a byte of the piece, or it is the last.
 use mathlib.Core.Path.{_≡_, sym, _∙_}
 use Prim.Native.Nat.{_+_, _-_, _≤_}
 use native.Mathlib.Omega.{arith}
@@ -6,8 +6,8 @@ use borrow.Author.Needs.{needs}
 use lib.ListN.{length, take, drop, length-take, length-drop}
 use lib.Seq.{length-take-le}
 use Rattle.transcript.specs.Ends.{fed-fits, fed-taken}
-use Rattle.player.proofs.answer.Statement.{statement}
-use Rattle.player.proofs.answer.Tie as tie
+use Rattle.sitting.proofs.answer.Statement.{statement}
+use Rattle.sitting.proofs.answer.Tie as tie
 
 abbrev Inv-loop : tie.InvT-loop
 Inv-loop piece out₀ reader₀ at₀ out reader at = (at ≤ length piece) × (length out ≡ length out₀)

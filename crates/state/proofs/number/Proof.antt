@@ -1,9 +1,7 @@
 use borrow.Author.Tests.{lt-ltb, le-ltb}
-use Rattle.sending.specs.ByParts.{number}
-use Rattle.sending.proofs.number.Statement.{statement}
-use Rattle.sending.proofs.number.Tie as tie
-use Rattle.sending.proofs.number.Reads as reads
-use Rattle.sending.proofs.number.Lts as lts
+use Rattle.state.specs.Number.{number}
+use Rattle.state.proofs.number.Statement.{statement}
+use Rattle.state.proofs.number.Tie as tie
 
 returns : tie.Need-returns
 unfolding number

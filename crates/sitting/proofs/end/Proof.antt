@@ -1,4 +1,4 @@
--- `player::end` is safe.
+-- `end` is safe.
 use mathlib.Core.Path.{sym}
 use Prim.Native.Nat.{_≤_}
 use native.Mathlib.Omega.{arith}
@@ -6,8 +6,8 @@ use borrow.Author.Needs.{needs}
 use lib.ListN.{length}
 use lib.Seq.{length-take-le}
 use Rattle.transcript.specs.Ends.{ended-fits}
-use Rattle.player.proofs.end.Statement.{statement}
-use Rattle.player.proofs.end.Tie as tie
+use Rattle.sitting.proofs.end.Statement.{statement}
+use Rattle.sitting.proofs.end.Tie as tie
 
 -- what was written lies within the buffer
 written : (c : tie.After-finish) → c .finish .result .written ≤ length (c .finish .last .1 .0)
