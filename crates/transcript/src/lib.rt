@@ -10,6 +10,7 @@ ghost use Rattle.transcript.specs.View.{reading, Feeding, Ending, Transc
 use frames::Frame;
 use protocol::Answer;
 use sending::Trio;
+use state::Machine;
 use state::State;
 
 // The state, and the first bytes of the line under way. A line longer than any frame is cut, and stays longer than any frame.
@@ -131,6 +132,9 @@ pub fn feed(r: Reader, input: &[u8], out: &mut [u8]) -> Fed
         let machines = state.machines;
         let mut answer = Answer::Accepted;
         match f {
+            Frame::Garbled => {
+                answer = Answer::Refused(1);
+            }
             Frame::Inject { chare, value, hops } => {
                 let x = state.live[0];
                 let w = state.wire;
@@ -194,6 +198,43 @@ pub fn feed(r: Reader, input: &[u8], out: &mut [u8]) -> Fed
                 state.live[i] = own;
                 state.wire = w;
                 let a = r.answer;
+                answer = a;
+            }
+            Frame::Checkpoint(p) => {
+                let no = checkpoints::judge(layout, lost, machines, p);
+                if no != 0 {
+                    answer = Answer::Refused(no);
+                } else {
+                    let live = state.live;
+                    let heights = machines::heights(live);
+                    let which = machines::on_machine(layout, p);
+                    let mut n = 0;
+                    while n < 13 {
+                        let c = n;
+                        n += 1;
+                        let i = c as usize;
+                        let x = state.live[i];
+                        if checkpoints::touches(layout, machines, which, c, x) {
+                            let k = state.copy[i];
+                            let v = checkpoints::visit(layout, machines, heights, which, c, x, k);
+                            let y = v.live;
+                            let z = v.copy;
+                            state.live[i] = y;
+                            state.copy[i] = z;
+                        }
+                    }
+                    let q = p as usize;
+                    let k = machines[q];
+                    let status = k.status;
+                    let none = notes::empty();
+                    state.machines[q] = Machine { status, held: true };
+                    state.notes[q] = none;
+                }
+            }
+            Frame::Show(chare) => {
+                let i = state::number(chare) as usize;
+                let x = state.live[i];
+                let a = machines::show_by(layout, lost, machines, x, chare);
                 answer = a;
             }
             _ => {

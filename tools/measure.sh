@@ -1,0 +1,39 @@
+#!/usr/bin/env bash
+# measure.sh: plays one random list of a million frames with the proved program and with the second implementation, five times in turn,
+# and prints the frames per second of the best run of each; then the memory of the proved program on an input of 100 MB and on one line
+# of 10 MB.
+set -euo pipefail
+root=$(cd "$(dirname "$0")/.." && pwd)
+proved=$root/target/bin/sitting
+[ -x "$proved" ] || (cd "$root" && rt check sitting >/dev/null)
+cargo build --release --offline --quiet --manifest-path "$root/reference/Cargo.toml"
+second=$root/reference/target/release/sitting
+lists=$root/reference/target/release/lists
+work=$(mktemp -d); trap 'rm -rf "$work"' EXIT
+# of the seeds from 1 on, the first whose list is not cut short by a lost run
+"$lists" 107 1000000 >"$work/list"
+frames=$(wc -l <"$work/list")
+seconds() { # PROGRAM: of one run, in nanoseconds
+  local from to
+  from=$(date +%s%N); "$1" <"$work/list" >"$work/out"; to=$(date +%s%N)
+  echo $((to - from))
+}
+best_proved=0; best_second=0
+for _ in 1 2 3 4 5; do
+  t=$(seconds "$proved"); if [ $best_proved -eq 0 ] || [ "$t" -lt $best_proved ]; then best_proved=$t; fi
+  t=$(seconds "$second"); if [ $best_second -eq 0 ] || [ "$t" -lt $best_second ]; then best_second=$t; fi
+done
+echo "frames:                $frames"
+echo "proved program:        $((frames * 1000000000 / best_proved)) frames a second"
+echo "second implementation: $((frames * 1000000000 / best_second)) frames a second"
+awk "BEGIN { printf \"proved / second:       1 / %.1f\n\", $best_proved / $best_second }"
+resident() { # NAME: the most memory that the program holds while it plays that input
+  local peak=0 now
+  "$proved" <"$work/$1" >/dev/null & local pid=$!
+  while now=$(awk '/VmHWM/ { print $2 }' "/proc/$pid/status" 2>/dev/null) && [ -n "$now" ]; do peak=$now; done
+  wait "$pid"
+  echo "memory on $1: $peak KB resident"
+}
+while [ "$(wc -c <"$work/list")" -lt 100000000 ]; do cat "$work/list" "$work/list" >"$work/more"; mv "$work/more" "$work/list"; done
+mv "$work/list" "$work/100-MB"; resident 100-MB
+head -c 10000000 /dev/zero | tr '\0' '1' >"$work/one-line-of-10-MB"; resident one-line-of-10-MB
