@@ -218,7 +218,7 @@ fn ack(m: Memory, sender: u8, sn: u16) -> Arrived
 }
 
 // What a packet does to the memory of the chare that it goes to. A NOTE goes to a note list, and leaves the memory.
-pub fn arrive(m: Memory, p: Packet) -> Arrived
+pub(crate) fn arrive(m: Memory, p: Packet) -> Arrived
     ensures { λ r. ⌜ arrived r ≡ asks 7 (effect-questions (memory-view m) p (p .content)) (effect (memory-view m) p (p .content)) ⌝ }
 {
     let c = p.content;

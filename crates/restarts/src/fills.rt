@@ -57,7 +57,7 @@ fn fill_local(t: Table, l: Layout, log: Log, p: u8, q: u8, c: u8, h: u16) -> Tab
 }
 
 // The copied logs of the chares on p fill entries.
-pub fn fill_locals(t: Table, l: Layout, copy: [Memory; 13], p: u8, c: u8, h: u16) -> Table
+pub(crate) fn fill_locals(t: Table, l: Layout, copy: [Memory; 13], p: u8, c: u8, h: u16) -> Table
     ensures { λ r. ⌜ entries r ≡ filling c h (entries t) (gather (local-messages (layout-view l) p (memories copy)) every-chare) ⌝ }
 {
     let mut k = t;

@@ -90,7 +90,7 @@ pub struct Restored {
     pub target: [u16; 13],
 }
 
-pub fn all_back(
+pub(crate) fn all_back(
     l: Layout,
     live: [Memory; 13],
     copy: [Memory; 13],
@@ -98,8 +98,7 @@ pub fn all_back(
     n: Notes,
     p: u8,
 ) -> Restored
-    requires { ⌜ 1 ≤ p ⌝ }
-    ensures { λ r. ⌜ All-back (sources (layout-view l) (memories live) (memories copy) (notes-of n)) (as-map 0 target) p r ⌝ }
+    ensures { λ r. ⌜ (1 ≤ p → All-back (sources (layout-view l) (memories live) (memories copy) (notes-of n)) (as-map 0 target) p r) ⌝ }
 {
     let mut a = live;
     let mut b = target;

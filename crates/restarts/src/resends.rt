@@ -157,7 +157,7 @@ fn send_log(w: Wire, l: Layout, heights: [u16; 13], log: Log, p: u8, q: u8) -> S
 }
 
 // All logs, by sender, receiver and SN.
-pub fn send_logs(w: Wire, l: Layout, live: [Memory; 13], p: u8) -> Sent
+pub(crate) fn send_logs(w: Wire, l: Layout, live: [Memory; 13], p: u8) -> Sent
     ensures { λ r. ⌜ sent r ≡ putting (packets w) (gather (all-again (layout-view l) (memories live) p) every-sender) ⌝ }
 {
     let high = heights(live);

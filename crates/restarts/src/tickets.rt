@@ -22,7 +22,7 @@ use table::Entered;
 use table::Table;
 
 // A message to chare c with a TN above h.
-pub fn is_above(x: Logged, c: u8, h: u16) -> bool
+pub(crate) fn is_above(x: Logged, c: u8, h: u16) -> bool
     ensures { λ r. ⌜ r ≡ is-ticketed-above c h x ⌝ }
 {
     if x.message.receiver != c {
@@ -166,7 +166,7 @@ fn from_senders(t: Table, l: Layout, live: [Memory; 13], p: u8, c: u8, h: u16) -
 }
 
 // All tickets known of chare c with the copied memory m, without doubles.
-pub fn known(l: Layout, live: [Memory; 13], m: Memory, n: Notes, p: u8, c: u8) -> Entered
+pub(crate) fn known(l: Layout, live: [Memory; 13], m: Memory, n: Notes, p: u8, c: u8) -> Entered
     ensures { λ r. ⌜ tickets r ≡ limit 16 (enter-all [] (known (layout-view l) (memories live) (memory-view m) (notes-of n) p c)) ⌝ }
 {
     let copy = m.table;

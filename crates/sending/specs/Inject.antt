@@ -12,7 +12,7 @@ use Rattle.lists.specs.Questions.{Yes}
 use Rattle.protocol.specs.Parts.{State}
 use Rattle.protocol.specs.Sending.{is-local, send, next-message}
 use Rattle.protocol.specs.Questions.{inject-questions, is-chare, numbers-fit, window-admits, log-has-room, table-has-room, takes-ticket, wire-fits, sn-to-send}
-use Rattle.sending.specs.declared.Ticket.the-variants.{Remote}
+use Rattle.sending.specs.declared.ticket.Ticket.the-variants.{Remote}
 use Rattle.sending.specs.SentLaws.{remote-sent}
 use Rattle.sending.specs.Sent.{sent, ticketed}
 use Rattle.sending.specs.Ticket.{packets-of}

@@ -31,7 +31,7 @@ use Rattle.state.specs.Outcome.{outcome-view, tried}
 use Rattle.state.specs.Store.{memories-set}
 use Rattle.state.specs.PutBack.{put-back, Sees, nothing-changed}
 use Rattle.sending.specs.declared.Injected.{Injected}
-use Rattle.sending.specs.declared.Ticket.the-variants.{Remote}
+use Rattle.sending.specs.declared.ticket.Ticket.the-variants.{Remote}
 use Rattle.sending.specs.Ticket.{tn-of, table-after, packets-of, logged}
 use Rattle.sending.specs.Sent.{sent, ticketed}
 use Rattle.sending.specs.SentLaws.{remote-sent}

@@ -8,8 +8,8 @@ use Rattle.lists.specs.Tests.{either, true-not-false}
 use Rattle.lists.specs.Map.{upd, upd-same}
 use Rattle.protocol.specs.Parts.{State, Job, Memory, with-memory}
 use Rattle.protocol.specs.Sending.{is-local}
-use Rattle.sending.specs.declared.Ticket.{Ticket}
-use Rattle.sending.specs.declared.Plan.{Plan}
+use Rattle.sending.specs.declared.ticket.Ticket.{Ticket}
+use Rattle.sending.specs.declared.plan.Plan.{Plan}
 use Rattle.sending.specs.Ticket.{fits}
 use Rattle.sending.specs.Plan.{idle, plan-for, plan-on, plan-next, plan-of, plan-after}
 

@@ -11,7 +11,7 @@ use Rattle.state.specs.declared.Memory.{Memory}
 use Rattle.state.specs.declared.State.{State}
 use Rattle.state.specs.View.{memory-view, view}
 use Rattle.sending.specs.declared.Places.{Places}
-use Rattle.sending.specs.declared.Ticket.{Ticket}
+use Rattle.sending.specs.declared.ticket.Ticket.{Ticket}
 use Rattle.sending.specs.declared.Trio.{Trio}
 use Rattle.sending.specs.Plan.{plan-on, plan-next}
 use Rattle.sending.specs.Placed.{first-plan, second-plan}

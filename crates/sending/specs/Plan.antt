@@ -12,10 +12,10 @@ use Rattle.protocol.specs.Window.{admitted}
 use Rattle.protocol.specs.Work.{port, receivers}
 use Rattle.protocol.specs.Tickets.{entry, next-tn}
 use Rattle.protocol.specs.Sending.{is-local}
-use Rattle.sending.specs.declared.Ticket.{Ticket}
-use Rattle.sending.specs.declared.Ticket.the-variants.{Remote, Found, New, TooHigh}
-use Rattle.sending.specs.declared.Plan.{Plan}
-use Rattle.sending.specs.declared.Receivers.{Receivers}
+use Rattle.sending.specs.declared.ticket.Ticket.{Ticket}
+use Rattle.sending.specs.declared.ticket.Ticket.the-variants.{Remote, Found, New, TooHigh}
+use Rattle.sending.specs.declared.plan.Plan.{Plan}
+use Rattle.sending.specs.declared.entry.Receivers.{Receivers}
 
 -- no new ticket
 unfoldable pub idle : Ticket → Plan

@@ -14,9 +14,9 @@ use Rattle.protocol.specs.Window.{admitted}
 use Rattle.protocol.specs.Tickets.{entry, next-tn, new-tn}
 use Rattle.protocol.specs.Sending.{is-local, send, next-message}
 use Rattle.protocol.specs.Questions.{numbers-fit, window-admits, table-has-room, takes-ticket, no-entry, sn-to-send}
-use Rattle.sending.specs.declared.Ticket.{Ticket}
-use Rattle.sending.specs.declared.Ticket.the-variants.{Remote, Found, New, TooHigh}
-use Rattle.sending.specs.declared.Plan.{Plan}
+use Rattle.sending.specs.declared.ticket.Ticket.{Ticket}
+use Rattle.sending.specs.declared.ticket.Ticket.the-variants.{Remote, Found, New, TooHigh}
+use Rattle.sending.specs.declared.plan.Plan.{Plan}
 use Rattle.sending.specs.Ticket.{fits, is-new}
 use Rattle.sending.specs.Sent.{sent}
 use Rattle.sending.specs.SentLaws.{remote-sent, found-sent, new-sent}

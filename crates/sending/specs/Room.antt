@@ -9,8 +9,8 @@ use Rattle.table.specs.declared.Table.{Table}
 use Rattle.table.specs.Table as table
 use Rattle.wire.specs.declared.Wire.{Wire}
 use Rattle.wire.specs.View.{packets}
-use Rattle.sending.specs.declared.Ticket.{Ticket}
-use Rattle.sending.specs.declared.Ticket.the-variants.{Remote, Found, New, TooHigh}
+use Rattle.sending.specs.declared.ticket.Ticket.{Ticket}
+use Rattle.sending.specs.declared.ticket.Ticket.the-variants.{Remote, Found, New, TooHigh}
 use Rattle.sending.specs.Ticket.{growth}
 use Rattle.sending.specs.Plan.{extra-after}
 

@@ -16,9 +16,9 @@ use Rattle.protocol.specs.declared.Message.{Message}
 use Rattle.protocol.specs.Parts.{State}
 use Rattle.protocol.specs.Tickets.{entry, next-tn}
 use Rattle.protocol.specs.Sending.{local-entry, is-local, next-message, send}
-use Rattle.sending.specs.declared.Ticket.{Ticket}
-use Rattle.sending.specs.declared.Ticket.the-variants.{Remote, Found, New, TooHigh}
-use Rattle.sending.specs.declared.Plan.{Plan}
+use Rattle.sending.specs.declared.ticket.Ticket.{Ticket}
+use Rattle.sending.specs.declared.ticket.Ticket.the-variants.{Remote, Found, New, TooHigh}
+use Rattle.sending.specs.declared.plan.Plan.{Plan}
 use Rattle.sending.specs.Ticket.{fits, is-new, table-after}
 use Rattle.sending.specs.Sent.{sent}
 use Rattle.sending.specs.Entries.{entry-filled, next-filled, length-filled, entry-more}

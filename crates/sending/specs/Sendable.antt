@@ -11,8 +11,8 @@ use Rattle.lists.specs.Tests.{and-l, and-r, true-not-false}
 use Rattle.protocol.specs.Parts.{State}
 use Rattle.protocol.specs.Sending.{send, send-all, next-message}
 use Rattle.protocol.specs.Questions.{numbers-fit, window-admits, log-has-room, table-has-room, takes-ticket, wire-fits, sn-to-send, put-to-all}
-use Rattle.sending.specs.declared.Ticket.{Ticket}
-use Rattle.sending.specs.declared.Ticket.the-variants.{Remote, Found, New, TooHigh}
+use Rattle.sending.specs.declared.ticket.Ticket.{Ticket}
+use Rattle.sending.specs.declared.ticket.Ticket.the-variants.{Remote, Found, New, TooHigh}
 use Rattle.sending.specs.Ticket.{fits, is-new, grows, growth}
 use Rattle.sending.specs.Sent.{sent, Ready}
 use Rattle.sending.specs.Plan.{plan-of, plan-after}

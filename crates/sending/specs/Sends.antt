@@ -14,8 +14,8 @@ use Rattle.protocol.specs.Parts.{State}
 use Rattle.protocol.specs.Sending.{send, send-all, next-message}
 use Rattle.protocol.specs.Questions.{numbers-fit, window-admits, log-has-room, table-has-room, wire-fits, put-to-all}
 use Rattle.protocol.specs.Step.{Outcome, judged}
-use Rattle.sending.specs.declared.Ticket.{Ticket}
-use Rattle.sending.specs.declared.Plan.{Plan}
+use Rattle.sending.specs.declared.ticket.Ticket.{Ticket}
+use Rattle.sending.specs.declared.plan.Plan.{Plan}
 use Rattle.sending.specs.Ticket.{fits, growth}
 use Rattle.sending.specs.Sent.{sent}
 use Rattle.sending.specs.Plan.{plan-of, plan-after}

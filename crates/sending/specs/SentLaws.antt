@@ -9,8 +9,8 @@ use Rattle.protocol.specs.declared.Entry.{Entry}
 use Rattle.protocol.specs.Parts.{State}
 use Rattle.protocol.specs.Tickets.{entry, new-tn}
 use Rattle.protocol.specs.Sending.{is-local, send, send-message, send-remote, send-local, put, log-message, next-message}
-use Rattle.sending.specs.declared.Ticket.{Ticket}
-use Rattle.sending.specs.declared.Ticket.the-variants.{Remote, Found, New, TooHigh}
+use Rattle.sending.specs.declared.ticket.Ticket.{Ticket}
+use Rattle.sending.specs.declared.ticket.Ticket.the-variants.{Remote, Found, New, TooHigh}
 use Rattle.sending.specs.Ticket.{tn-of, table-after, packets-of, logged}
 use Rattle.sending.specs.Sent.{ticketed, sent}
 

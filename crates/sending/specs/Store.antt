@@ -21,7 +21,7 @@ use Rattle.state.specs.declared.Memory.{Memory}
 use Rattle.state.specs.declared.State.{State}
 use Rattle.state.specs.View.{memory-view}
 use Rattle.sending.specs.declared.Places.{Places}
-use Rattle.sending.specs.declared.Ticket.{Ticket}
+use Rattle.sending.specs.declared.ticket.Ticket.{Ticket}
 use Rattle.sending.specs.declared.Trio.{Trio}
 use Rattle.sending.specs.Ticket.{is-new, grows, tn-of, table-after, packets-of, logged}
 use Rattle.sending.specs.Sent.{ticketed, sent, Ready}

@@ -10,8 +10,8 @@ use Rattle.protocol.specs.declared.Content.the-variants.{Ask as ASK, Note as NO
 use Rattle.protocol.specs.Parts.{Memory, with-log, with-sn}
 use Rattle.protocol.specs.Tickets.{filled}
 use Rattle.protocol.specs.Sending.{about, local-entry}
-use Rattle.sending.specs.declared.Ticket.{Ticket}
-use Rattle.sending.specs.declared.Ticket.the-variants.{Remote, Found, New, TooHigh}
+use Rattle.sending.specs.declared.ticket.Ticket.{Ticket}
+use Rattle.sending.specs.declared.ticket.Ticket.the-variants.{Remote, Found, New, TooHigh}
 
 -- no SN or TN passes 60,000
 unfoldable pub fits : Ticket → Bool

@@ -9,8 +9,8 @@ use Rattle.protocol.specs.declared.Answer.the-variants.{Accepted, Refused}
 use Rattle.protocol.specs.Parts as parts
 use Rattle.protocol.specs.Parts.{with-memory}
 use Rattle.protocol.specs.Sending.{send, send-all}
-use Rattle.sending.specs.declared.Ticket.{Ticket}
-use Rattle.sending.specs.declared.Plan.{Plan}
+use Rattle.sending.specs.declared.ticket.Ticket.{Ticket}
+use Rattle.sending.specs.declared.plan.Plan.{Plan}
 use Rattle.sending.specs.Ticket.{fits}
 use Rattle.sending.specs.Plan.{plan-of, plan-after}
 use Rattle.sending.specs.Sends.{one-verdict, two-verdict, two-same, sends-questions, tried-sends, one-judged, two-judged}

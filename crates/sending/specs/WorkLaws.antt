@@ -13,7 +13,7 @@ use Rattle.protocol.specs.Work.{port, receivers, sent-value}
 use Rattle.protocol.specs.Working.{next-entry, work-entry, worked-only, value-out, hops-out, receivers-of}
 use Rattle.protocol.specs.Questions.{is-chare, work-questions}
 use Rattle.state.specs.Outcome.{tried}
-use Rattle.sending.specs.declared.Receivers.{Receivers}
+use Rattle.sending.specs.declared.entry.Receivers.{Receivers}
 use Rattle.sending.specs.Plan.{listed}
 use Rattle.sending.specs.Sends.{tried-sends}
 use Rattle.sending.specs.Verdict.{verdict, all-yes}

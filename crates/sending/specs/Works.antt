@@ -20,7 +20,7 @@ use Rattle.protocol.specs.Step.{Outcome, judged}
 use Rattle.state.specs.declared.Memory.{Memory}
 use Rattle.state.specs.View.{memory-view}
 use Rattle.state.specs.Outcome.{tried}
-use Rattle.sending.specs.declared.Worked.{Worked}
+use Rattle.sending.specs.declared.entry.Worked.{Worked}
 use Rattle.sending.specs.Sends.{sends-questions, tried-sends}
 use Rattle.sending.specs.Verdict.{verdict, stopped, passed, part-stopped, part-passed}
 

@@ -30,7 +30,7 @@ returns : tie.Need-returns
 returns c =
     let r = c .before .before .before in
     let a = r .before .before .before .before .before .before .args in
-    c .refuse .ensures ∙ tables-no (a .t1) (a .p) (r .all-back .result) (r .all-back .ensures) (not-true _ (c .before .if1 .taken))
+    c .refuse .ensures ∙ tables-no (a .t1) (a .p) (r .all-back .result) (r .all-back .ensures (omega (arith, r .before .before .before .before .before .before .pre))) (not-true _ (c .before .if1 .taken))
 
 after-restart-requires : tie.Need-after-restart-requires
 after-restart-requires c κs = search needs
@@ -49,7 +49,7 @@ returns-2 c =
     let r = e .before .before in
     let a = r .before .before .before .before .before .before .args in
     c .refuse2 .ensures
-    ∙ wire-no (a .t1) (a .p) (r .all-back .result) (r .all-back .ensures) (not-false _ (e .if1 .left))
+    ∙ wire-no (a .t1) (a .p) (r .all-back .result) (r .all-back .ensures (omega (arith, r .before .before .before .before .before .before .pre))) (not-false _ (e .if1 .left))
     (w .after-restart .result) (w .after-restart .ensures) (v .send-logs .result) (v .send-logs .ensures) (not-true _ (c .before .if2 .taken))
 
 mul-m : tie.Need-mul-m
@@ -74,7 +74,7 @@ returns-3 c =
     let r = e .before .before in
     let s = r .before .before .before .before .before .before in
     let a = s .args in
-    all-done (a .t1) (a .p) (r .all-back .result) (r .all-back .ensures) (not-false _ (e .if1 .left))
+    all-done (a .t1) (a .p) (r .all-back .result) (r .all-back .ensures (omega (arith, r .before .before .before .before .before .before .pre))) (not-false _ (e .if1 .left))
     (w .after-restart .result) (w .after-restart .ensures) (v .send-logs .result) (v .send-logs .ensures) (not-false _ (d .if2 .left)) (omega (arith, s .pre, size s))
 
 pub come-back-spec : {M : Type 1} → statement M

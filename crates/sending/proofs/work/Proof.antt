@@ -7,10 +7,6 @@ use Rattle.sending.specs.ByParts.{AtPorts, Works}
 use borrow.Author.Needs.{needs}
 use Rattle.sending.proofs.work.Statement.{statement}
 use Rattle.sending.proofs.work.Tie as tie
-use Rattle.sending.proofs.work.Reads as reads
-use Rattle.sending.proofs.work.Lts as lts
-use Rattle.sending.proofs.places_of.Reads as places-of-reads
-use Rattle.sending.proofs.work_by.Reads as work-by-reads
 
 places-of-requires : tie.Need-places-of-requires
 places-of-requires c κs = search needs

@@ -19,12 +19,6 @@ use Rattle.sending.specs.WorkLaws.{chare-refused, chare-there, chare-pas
 use borrow.Author.Needs.{needs}
 use Rattle.sending.proofs.work_by.Statement.{statement}
 use Rattle.sending.proofs.work_by.Tie as tie
-use Rattle.sending.proofs.work_by.Reads as reads
-use Rattle.sending.proofs.work_by.Lts as lts
-use Rattle.sending.proofs.judge_chare.Reads as judge-chare-reads
-use Rattle.sending.proofs.member.Reads as member-reads
-use Rattle.sending.proofs.next_entry.Reads as next-entry-reads
-use Rattle.sending.proofs.work_on.Reads as work-on-reads
 
 judge-chare-requires : tie.Need-judge-chare-requires
 judge-chare-requires c κs = search needs

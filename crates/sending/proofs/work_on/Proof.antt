@@ -14,15 +14,6 @@ use Rattle.sending.specs.WorkLaws.{listed-none, listed-one, listed-two, 
 use borrow.Author.Needs.{needs}
 use Rattle.sending.proofs.work_on.Statement.{statement}
 use Rattle.sending.proofs.work_on.Tie as tie
-use Rattle.sending.proofs.work_on.Reads as reads
-use Rattle.sending.proofs.work_on.Lts as lts
-use Rattle.sending.proofs.less_one.Reads as less-one-reads
-use Rattle.sending.proofs.member.Reads as member-reads
-use Rattle.sending.proofs.receivers_of.Reads as receivers-of-reads
-use Rattle.sending.proofs.send_one.Reads as send-one-reads
-use Rattle.sending.proofs.send_two.Reads as send-two-reads
-use Rattle.sending.proofs.with_member.Reads as with-member-reads
-use Rattle.sending.proofs.work_entry.Reads as work-entry-reads
 
 member-requires : tie.Need-member-requires
 member-requires c κs = search needs

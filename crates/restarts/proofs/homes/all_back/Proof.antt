@@ -15,7 +15,7 @@ use Rattle.restarts.proofs.homes.all_back.Statement.{statement}
 use Rattle.restarts.proofs.homes.all_back.Tie as tie
 
 abbrev Inv-loop : tie.InvT-loop
-Inv-loop l live copy target n p a₀ b₀ c₀ a b c = (1 ≤ c) × (c ≤ 13) × Going (sources (layout-view l) (memories live) (memories copy) (notes-of n)) (as-map 0 target) p c a b
+Inv-loop l live copy target n p a₀ b₀ c₀ a b c = (1 ≤ c) × (c ≤ 13) × (1 ≤ p → Going (sources (layout-view l) (memories live) (memories copy) (notes-of n)) (as-map 0 target) p c a b)
 
 abbrev μ-loop : tie.MeasureT-loop
 μ-loop l live copy target n p a₀ b₀ c₀ a b c = 13 - c
@@ -26,8 +26,8 @@ loop-holds c =
     let a = c .args in (
       search needs,
       search needs,
-      going-start (sources (layout-view (a .l)) (memories (a .live)) (memories (a .copy)) (notes-of (a .n))) (as-map 0 (a .target)) (a .p) (a .live) (a .target)
-          (search (long, needs)) (search needs) refl refl (desk-not-on (a .l) (search needs) (a .p) (c .pre)),
+      λ h. going-start (sources (layout-view (a .l)) (memories (a .live)) (memories (a .copy)) (notes-of (a .n))) (as-map 0 (a .target)) (a .p) (a .live) (a .target)
+          (search (long, needs)) (search needs) refl refl (desk-not-on (a .l) (search needs) (a .p) h),
     )
 
 cast-i : tie.Need-cast-i Inv-loop μ-loop
@@ -40,12 +40,12 @@ add-c : tie.Need-add-c Inv-loop μ-loop
 add-c c = search needs
 
 returns : tie.Need-returns Inv-loop μ-loop
-returns c =
+returns c h =
     let a = c .before .before .before .before .before .args in
     let l = c .before .before .before .before .loop in
     let r = c .before .before .chare-back in
     going-stop (sources (layout-view (a .l)) (memories (a .live)) (memories (a .copy)) (notes-of (a .n))) (as-map 0 (a .target)) (a .p) (l .a) (l .b)
-    (l .c) (omega arith) (l .inv .2) (r .result) (r .ensures) _ _ (not-true _ (c .if1 .taken))
+    (l .c) (omega arith) (l .inv .2 h) (r .result) (r .ensures) _ _ (not-true _ (c .if1 .taken))
 
 mul-a : tie.Need-mul-a Inv-loop μ-loop
 mul-a c = search needs
@@ -69,17 +69,17 @@ loop-again c =
     let r = c .before .before .before .chare-back in (
       search needs,
       search needs,
-      going-more (sources (layout-view (a .l)) (memories (a .live)) (memories (a .copy)) (notes-of (a .n))) (as-map 0 (a .target)) (a .p) (l .a) (l .b)
-          (l .c) (omega arith) (l .inv .2) (r .result) (r .ensures) (not-false _ (c .before .if1 .left)),
+      λ h. going-more (sources (layout-view (a .l)) (memories (a .live)) (memories (a .copy)) (notes-of (a .n))) (as-map 0 (a .target)) (a .p) (l .a) (l .b)
+          (l .c) (omega arith) (l .inv .2 h) (r .result) (r .ensures) (not-false _ (c .before .if1 .left)),
     )
 
 returns-2 : tie.Need-returns-2 Inv-loop μ-loop
 unfolding sources
-returns-2 c =
+returns-2 c h =
     let a = c .before .before .args in
     let l = c .before .loop in
     going-end (sources (layout-view (a .l)) (memories (a .live)) (memories (a .copy)) (notes-of (a .n))) (as-map 0 (a .target)) (a .p) (l .a) (l .b)
-    (l .c) (omega arith) (omega arith) (l .inv .2) (beyond-not-on (a .l) (search needs) (a .p) (c .before .before .pre))
+    (l .c) (omega arith) (omega arith) (l .inv .2 h) (beyond-not-on (a .l) (search needs) (a .p) h)
 
 pub all-back-spec : {M : Type 1} → statement M
 all-back-spec =

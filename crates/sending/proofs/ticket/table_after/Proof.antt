@@ -1,0 +1,60 @@
+use mathlib.Core.Path.{sym, ap, _∙_}
+use Rattle.arrays.specs.Front.{push-fits}
+use Rattle.table.specs.Table.{entries}
+use Rattle.protocol.specs.Sending.{local-entry}
+use Rattle.sending.specs.Ticket.{table-after, is-new}
+use borrow.Author.Needs.{needs}
+use Rattle.sending.proofs.ticket.table_after.Statement.{statement}
+use Rattle.sending.proofs.ticket.table_after.Tie as tie
+
+enum-told : tie.Need-enum-told
+enum-told c = search needs
+
+enum-told-2 : tie.Need-enum-told-2
+enum-told-2 c = search needs
+
+fill-requires : tie.Need-fill-requires
+fill-requires c κs = search needs
+
+enum-known-k : tie.Need-enum-known-k
+enum-known-k c = search needs
+
+push-requires : tie.Need-push-requires
+push-requires c κs = search needs
+
+enum-told-3 : tie.Need-enum-told-3
+enum-told-3 c = search needs
+
+returns : tie.Need-returns
+unfolding table-after
+returns c room = let a = c .before .before .args in sym (ap (table-after (entries (a .t)) (a .m)) (c .enum-told .given .1))
+
+returns-2 : tie.Need-returns-2
+unfolding table-after
+returns-2 c room = let a = c .before .before .before .args in c .fill .ensures ∙ sym (ap (table-after (entries (a .t)) (a .m)) (c .before .enum-told2 .given .1))
+
+returns-3 : tie.Need-returns-3
+unfolding table-after is-new local-entry
+returns-3 c room =
+    let a = c .before .before .before .before .args in
+    let e = c .before .before .k .given .1 in
+    c .push .ensures ∙ push-fits 16 (entries (a .t)) _ (room (ap is-new e)) ∙ sym (ap (table-after (entries (a .t)) (a .m)) e)
+
+returns-4 : tie.Need-returns-4
+unfolding table-after
+returns-4 c room = let a = c .before .before .args in sym (ap (table-after (entries (a .t)) (a .m)) (c .enum-told3 .given .1))
+
+pub table-after-spec : {M : Type 1} → statement M
+table-after-spec =
+    tie.close
+    (tie.spec
+    enum-told
+    enum-told-2
+    fill-requires
+    enum-known-k
+    push-requires
+    enum-told-3
+    returns
+    returns-2
+    returns-3
+    returns-4)
