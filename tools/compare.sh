@@ -2,15 +2,9 @@
 # compare.sh [FRAMES] [SEED]: plays random lists with the proved program `sitting` and with the second implementation and compares
 # every byte; then a long input, one very long line and random bytes. Prints how many frames were compared.
 set -euo pipefail
-root=$(cd "$(dirname "$0")/.." && pwd)
 frames=${1:-20000000}
 seed=${2:-1}
-proved=$root/target/bin/sitting
-[ -x "$proved" ] || (cd "$root" && rt check sitting >/dev/null)
-cargo build --release --offline --quiet --manifest-path "$root/reference/Cargo.toml"
-second=$root/reference/target/release/sitting
-lists=$root/reference/target/release/lists
-work=$(mktemp -d); trap 'rm -rf "$work"' EXIT
+. "$(dirname "$0")/programs.sh"
 compared=0
 same() { # INPUT
   "$proved" <"$1" >"$work/proved"

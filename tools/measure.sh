@@ -3,13 +3,7 @@
 # and prints the frames per second of the best run of each; then the memory of the proved program on an input of 100 MB and on one line
 # of 10 MB.
 set -euo pipefail
-root=$(cd "$(dirname "$0")/.." && pwd)
-proved=$root/target/bin/sitting
-[ -x "$proved" ] || (cd "$root" && rt check sitting >/dev/null)
-cargo build --release --offline --quiet --manifest-path "$root/reference/Cargo.toml"
-second=$root/reference/target/release/sitting
-lists=$root/reference/target/release/lists
-work=$(mktemp -d); trap 'rm -rf "$work"' EXIT
+. "$(dirname "$0")/programs.sh"
 # of the seeds from 1 on, the first whose list is not cut short by a lost run
 "$lists" 107 1000000 >"$work/list"
 frames=$(wc -l <"$work/list")

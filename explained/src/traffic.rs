@@ -24,19 +24,24 @@ impl Change {
     }
 }
 
-/// The change that an accepted frame made.
-pub fn change(job: &Job, frame: &Frame, before: &Wire, after: &Wire) -> Change {
-    let mut change = Change::default();
+/// The packet that a delivery names, once its numbers are in range.
+pub fn named(frame: &Frame) -> Option<Name> {
     match *frame {
         Frame::Deliver {
             kind,
             sender,
             receiver,
             sn,
-        } => {
-            let name = Kind::from_byte(kind).map(|kind| Name::new(kind, sender, receiver, sn));
-            change.taken = name.and_then(|name| before.find(name));
-        }
+        } => Kind::from_byte(kind).map(|kind| Name::new(kind, sender, receiver, sn)),
+        _ => None,
+    }
+}
+
+/// The change that an accepted frame made.
+pub fn change(job: &Job, frame: &Frame, before: &Wire, after: &Wire) -> Change {
+    let mut change = Change::default();
+    match *frame {
+        Frame::Deliver { .. } => change.taken = named(frame).and_then(|name| before.find(name)),
         // A crash sends nothing, so what is not found again in its order is gone.
         Frame::Crash { .. } => {
             let mut kept = after.packets().peekable();

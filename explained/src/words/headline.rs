@@ -3,6 +3,7 @@
 use super::refusal;
 use crate::names::{count, message, short};
 use crate::play::Step;
+use crate::traffic::named;
 use reference::answer::Answer;
 use reference::frame::Frame;
 use reference::job::ix;
@@ -29,7 +30,7 @@ pub fn headline(step: &Step) -> String {
             let sn = step.after.world.desk.sent[ix(chare)];
             format!("inject {}, value {value}", message(DESK, chare, sn))
         }
-        Frame::Deliver { .. } => match refusal::named(frame) {
+        Frame::Deliver { .. } => match named(frame) {
             Some(name) => format!("deliver {}", short(name)),
             None => String::new(),
         },

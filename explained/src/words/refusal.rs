@@ -3,13 +3,14 @@
 use super::{garbled, range};
 use crate::names::{message, place, sender, short};
 use crate::play::Step;
+use crate::traffic::named;
 use reference::answer::Question;
 use reference::frame::Frame;
 use reference::job::{ix, Job};
 use reference::limits::{
     DESK, LOG_SIZE, MAX_NUMBER, NOTES_SIZE, TABLE_SIZE, WINDOW_BITS, WIRE_SIZE,
 };
-use reference::wire::{Kind, Name};
+use reference::wire::Kind;
 use reference::world::{destination, World};
 
 /// One line: the number, the question, the reason.
@@ -71,19 +72,6 @@ pub fn reason(step: &Step, question: Question) -> String {
         Question::LogSpace => log_full(job, world, frame),
         Question::Space => no_space(job, world, frame),
         Question::WireSpace => wire_full(job, world, frame),
-    }
-}
-
-/// The packet that a delivery names, once its numbers are in range.
-pub fn named(frame: &Frame) -> Option<Name> {
-    match *frame {
-        Frame::Deliver {
-            kind,
-            sender,
-            receiver,
-            sn,
-        } => Kind::from_byte(kind).map(|kind| Name::new(kind, sender, receiver, sn)),
-        _ => None,
     }
 }
 
