@@ -2,11 +2,11 @@
 use mathlib.Core.Path.{_≡_, refl, sym, ap, _∙_, fun-ext}
 use mathlib.Core.Bool.{true, false, not}
 use mathlib.Core.List.{List, _++_}
-use Prim.Native.Nat.{ℕ, _<_, _≤_, min}
+use Prim.Native.Nat.{ℕ, _<_, _≤_}
 use native.Mathlib.Omega.{arith}
 use borrow.Author.Tests.{leb-true}
 use lib.Dec.{eqb, leb}
-use lib.ListN.{length, set, getD, length-take}
+use lib.ListN.{length, set, getD}
 use Rattle.lists.specs.Tests.{either, and-l, and-r}
 use Rattle.lists.specs.Lists.{keep, gather}
 use Rattle.lists.specs.Map.{upd, upd-self}
@@ -24,6 +24,7 @@ use Rattle.layout.specs.View.{layout-view}
 use Rattle.layout.specs.ViewLaws.{machines-top}
 use Rattle.notes.specs.View.{noted}
 use Rattle.wire.specs.declared.Wire.{Wire}
+use Rattle.wire.specs.Laws.{packets-fit}
 use Rattle.wire.specs.View.{packets}
 use Rattle.state.specs.declared.Memory.{Memory}
 use Rattle.state.specs.declared.Machine.{Machine}
@@ -118,15 +119,11 @@ module _ (s : State) (p : ℕ) (r : Restored)
 
   module _ (f : r .fits ≡ true) (w : Wire) (stay : packets w ≡ keep (λ x. not (eqb (goes-to (layout-view (s .layout)) x) p)) (packets (s .wire))) (v : Sent)
       (put : sent v ≡ putting (packets w) (gather (all-again (layout-view (s .layout)) (memories (r .live)) p) every-sender)) where
-    room : length (packets w) ≤ 128
-    unfolding packets
-    room = omega (arith, length-take (min (w .len) 128) (w .items))
-
     abbrev all-packets : List Packet
     all-packets = packets w ++ gather (all-again (layout-view (s .layout)) (memories (r .live)) p) every-sender
 
     limited : sent v ≡ limit 128 all-packets
-    limited = put ∙ putting-all (packets w) _ room
+    limited = put ∙ putting-all (packets w) _ (packets-fit w)
 
     restart-view : restart (view s) p ≡ after (view s) p (memories (r .live)) (as-map 0 (r .target)) all-packets
     unfolding view note-lists as-map

@@ -1,32 +1,40 @@
 -- A wire as the list of its packets, oldest first.
 use mathlib.Core.Bool.{Bool, not, cond}
-use mathlib.Core.List.{List}
+use mathlib.Core.List.{List, _++_, map}
 use mathlib.Core.Option.{Option, some, none}
 use mathlib.Core.Path.{_≡_}
-use Prim.Native.Nat.{ℕ, min}
+use Prim.Native.Nat.{ℕ, suc, min}
 use lib.Dec.{eqb}
-use lib.ListN.{take}
+use lib.ListN.{take, drop}
 use Rattle.lists.specs.Lists.{find, remove1}
 use Rattle.protocol.specs.Crash.{survives}
 use Rattle.protocol.specs.Packets.{is-named, goes-to}
 use Rattle.protocol.specs.Parts.{Job}
 use Rattle.protocol.specs.declared.Packet.{Packet}
-use Rattle.wire.specs.declared.Delivery.{Delivery}
-use Rattle.wire.specs.declared.Taken.the-variants.{Nothing, Got}
-use Rattle.wire.specs.declared.Taken.{Taken}
+use Rattle.wire.specs.Words.{unpacked}
+use Rattle.wire.specs.declared.Found.the-variants.{Nothing, At}
+use Rattle.wire.specs.declared.Found.{Found}
 use Rattle.wire.specs.declared.Wire.{Wire}
 
+-- the first words as packets
+unfoldable pub waiting : List ℕ → ℕ → List Packet
+waiting words len = take (min len 128) (map unpacked words)
+
 unfoldable pub packets : Wire → List Packet
-packets w = take (min (w .len) 128) (w .items)
+packets w = waiting (w .words) (w .len)
 
-unfoldable pub taken : Taken → Option Packet
-taken Nothing = none
-taken (Got p) = some p
+-- the list without what stands at i
+unfoldable pub without : {A : Type 0} → ℕ → List A → List A
+without i l = take i l ++ drop (suc i) l
 
--- the oldest packet of a name is found and leaves the wire; where there is none the wire stays
-pub record Delivered (k s r n : ℕ) (w : Wire) (d : Delivery) : Type 0 where
-  pub wire : packets (d .wire) ≡ remove1 (is-named k s r n) (packets w)
-  pub found : taken (d .found) ≡ find (is-named k s r n) (packets w)
+unfoldable pub found : Found → Option Packet
+found Nothing = none
+found (At i p) = some p
+
+-- the oldest packet of a name, and its place
+pub record Finds (k s r n : ℕ) (l : List Packet) (f : Found) : Type 0 where
+  pub packet : found f ≡ find (is-named k s r n) l
+  pub place : (i : ℕ) (p : Packet) → f ≡ At i p → remove1 (is-named k s r n) l ≡ without i l
 
 -- a packet stays at a crash of p, or at its restart
 unfoldable pub stays : Bool → Job → ℕ → Packet → Bool
