@@ -6,7 +6,7 @@ use Prim.Native.Nat.{ℕ, _+_, _≤_, _<_}
 use native.Mathlib.Omega.{arith}
 use borrow.Author.Tests.{le-ltb}
 use lib.ListN.{length, length-set, getD, set}
-use Rattle.lists.specs.Map.{upd}
+use Rattle.lists.specs.Map.{upd, upd-same, upd-upd, upd-self}
 use Rattle.lists.specs.Tests.{either}
 use Rattle.arrays.specs.ArrayMap.{as-map}
 use Rattle.protocol.specs.Parts.{on, up, at-home}
@@ -20,15 +20,14 @@ use Rattle.state.specs.declared.Machine.{Machine}
 use Rattle.state.specs.declared.Memory.{Memory}
 use Rattle.state.specs.declared.State.{State}
 use Rattle.state.specs.View.{view, memory-view, memories, no-memory, statuses, note-lists}
-use Rattle.state.specs.Store.{note-lists-set}
+use Rattle.state.specs.Store.{memories-set, note-lists-set}
 use Rattle.machines.specs.Asking.{runs}
 use Rattle.machines.specs.Beyond.{memories-at, memories-beyond}
 use Rattle.machines.specs.Homes.{residents, residents-on}
 use Rattle.machines.specs.Standing.{holding, holding-status, holding-held}
-use Rattle.machines.specs.Sweep.{front, front-start, front-skip, front-end, memory-put}
-use Rattle.checkpoints.specs.declared.Visited.{Visited}
-use Rattle.checkpoints.specs.Parts.{cleaned, touches, visited-copy, visited-live, Visits}
-use Rattle.checkpoints.specs.Visit.{idle-copy, idle-live, blank-copy, blank-live}
+use Rattle.machines.specs.Sweep.{front, front-start, front-put, front-skip, front-end, memory-put}
+use Rattle.checkpoints.specs.Parts.{cleaned, loses, visited-copy, visited-live}
+use Rattle.checkpoints.specs.Visit.{copy-on, copy-off, live-cleaned, live-kept, blank-copy, blank-live}
 use Rattle.protocol.specs.Parts as parts
 
 abbrev height : State → ℕ → ℕ
@@ -38,6 +37,10 @@ height s i = memories (s .live) i .height
 module _ (s : State) (p : ℕ) where
   abbrev on-it : ℕ → Bool
   on-it = residents (layout-view (s .layout)) p
+
+  -- the memory after the first half
+  unfoldable pub half-live : ℕ → parts.Memory
+  half-live i = visited-copy on-it i (memories (s .live) i) (memories (s .live) i)
 
   unfoldable pub swept-live : ℕ → parts.Memory
   swept-live i = visited-live (layout-view (s .layout)) (statuses (s .machines)) (is-kept on-it (height s)) on-it i (memories (s .live) i)
@@ -71,12 +74,23 @@ with-machine s p m n = record {
   wire = s .wire;
 }
 
+-- the arrays of memories are whole
+abbrev pub Long : State → State → Type 0
+Long s t = (length (s .live) ≡ 13) × (length (s .copy) ≡ 13) × (length (t .live) ≡ 13) × (length (t .copy) ≡ 13)
+
 -- t is s with the chares below c visited
 pub record Swept (s : State) (p c : ℕ) (t : State) : Type 0 where
   pub rest : with-memories t (s .live) (s .copy) ≡ s
-  pub sizes : (length (s .live) ≡ 13) × (length (s .copy) ≡ 13) × (length (t .live) ≡ 13) × (length (t .copy) ≡ 13)
+  pub sizes : Long s t
   pub live : memories (t .live) ≡ front c (swept-live s p) (memories (s .live))
   pub copy : memories (t .copy) ≡ front c (swept-copy s p) (memories (s .copy))
+
+-- the same, and of chare c the first half is done: if it is on the machine, its table is pruned and its copy made anew
+pub record Half (s : State) (p c : ℕ) (t : State) : Type 0 where
+  pub rest : with-memories t (s .live) (s .copy) ≡ s
+  pub sizes : Long s t
+  pub live : memories (t .live) ≡ upd c (half-live s p c) (front c (swept-live s p) (memories (s .live)))
+  pub copy : memories (t .copy) ≡ front (c + 1) (swept-copy s p) (memories (s .copy))
 
 pub swept-start : (s : State) (p : ℕ) → length (s .live) ≡ 13 → length (s .copy) ≡ 13 → Swept s p 0 s
 swept-start s p h k = record {
@@ -91,41 +105,77 @@ unfolding front
 front-here k f g = rw (le-ltb k k (omega arith))
 
 module _ (s : State) (p c : ℕ) (t : State) (inv : Swept s p c t) where
-  -- at chare c the memories are still as they were
+  -- at chare c the memory is still as it was
   live-at : memory-view (getD (t .live) c no-memory) ≡ memories (s .live) c
   live-at = sym (memories-at (t .live) c) ∙ ap (λ f. f c) (inv .live) ∙ front-here c (swept-live s p) (memories (s .live))
 
-  copy-at : memory-view (getD (t .copy) c no-memory) ≡ memories (s .copy) c
-  copy-at = sym (memories-at (t .copy) c) ∙ ap (λ f. f c) (inv .copy) ∙ front-here c (swept-copy s p) (memories (s .copy))
-
+  -- the first half, on the machine and off it
   module _ (which : List Bool) (is-which : as-map false which ≡ residents (layout-view (s .layout)) p) where
-    -- chare c is visited
-    pub swept-more : c < 13 → (heights : List ℕ) → as-map 0 heights ≡ (λ i. memories (s .live) i .height)
-        → (v : Visited) → Visits (s .layout) (s .machines) heights which c (getD (t .live) c no-memory) (getD (t .copy) c no-memory) v
-        → Swept s p (c + 1) (with-memories t (set (t .live) c (v .live)) (set (t .copy) c (v .copy)))
-    unfolding swept-live swept-copy
-    swept-more h heights is-heights v e =
+    pub half-on : c < 13 → getD which c false ≡ true → (y : Memory) → memory-view y ≡ pruned (memory-view (getD (t .live) c no-memory))
+        → Half s p c (with-memories t (set (t .live) c y) (set (t .copy) c y))
+    unfolding half-live swept-copy
+    half-on h e y is-y =
         let (a, b, m, n) = inv .sizes in
+        let q = is-y ∙ ap pruned live-at in
         record {
           rest = inv .rest;
           sizes = (a, b, simp length-set m, simp length-set n);
-          live = memory-put (t .live) c _ _ (v .live) (inv .live) (omega arith) (e .live ∙ rw (live-at, is-which, is-heights));
-          copy = memory-put (t .copy) c _ _ (v .copy) (inv .copy) (omega arith) (e .copy ∙ rw (live-at, copy-at, is-which));
+          live = memories-set (t .live) c y (omega arith) ∙ rw (inv .live, q ∙ copy-on which c _ (memories (s .live) c) e, is-which);
+          copy = memory-put (t .copy) c _ _ y (inv .copy) (omega arith) (q ∙ copy-on which c _ (memories (s .copy) c) e ∙ rw is-which);
         }
 
-    -- chare c has nothing to do
-    pub swept-skip : (b : Bool) → b ≡ touches (layout-view (s .layout)) (statuses (s .machines)) (as-map false which) c (memory-view (getD (t .live) c no-memory))
-        → b ≡ false → Swept s p (c + 1) t
-    unfolding swept-live swept-copy
-    swept-skip b is-b off =
-        let e : touches (layout-view (s .layout)) (statuses (s .machines)) (on-it s p) c (memories (s .live) c) ≡ false = rw (is-which, live-at) at (sym is-b ∙ off) in
+    pub half-off : getD which c false ≡ false → Half s p c t
+    unfolding half-live swept-copy
+    half-off e =
+        let before = front c (swept-live s p) (memories (s .live)) in
+        let m = memories (s .live) c in
+        let same : before c ≡ half-live s p c = front-here c _ _ ∙ copy-off which c m m e ∙ rw is-which in
         record {
           rest = inv .rest;
           sizes = inv .sizes;
-          live = front-skip c _ _ _ (inv .live) (idle-live _ _ _ c _ e _);
-          copy = front-skip c _ _ _ (inv .copy) (idle-copy _ _ _ c _ e _);
+          live = inv .live ∙ sym (upd-self c before) ∙ ap (λ x. upd c x before) same;
+          copy = front-skip c _ _ _ (inv .copy) (sym (copy-off which c m (memories (s .copy) c) e ∙ rw is-which));
         }
 
+-- the second half, where the log loses something and where it does not
+module _ (s : State) (p c : ℕ) (t : State) (inv : Half s p c t) (which : List Bool) (is-which : as-map false which ≡ residents (layout-view (s .layout)) p)
+    (heights : List ℕ) (is-heights : as-map 0 heights ≡ (λ i. memories (s .live) i .height))
+    (b : Bool)
+    (is-b : b ≡ loses (layout-view (s .layout)) (statuses (s .machines)) (is-kept (as-map false which) (as-map 0 heights)) c (memory-view (getD (t .live) c no-memory))) where
+  half-at : memory-view (getD (t .live) c no-memory) ≡ half-live s p c
+  half-at = sym (memories-at (t .live) c) ∙ ap (λ f. f c) (inv .live) ∙ upd-same c _ _
+
+  abbrev losing : Bool
+  losing = loses (layout-view (s .layout)) (statuses (s .machines)) (is-kept (on-it s p) (height s)) c (half-live s p c)
+
+  is-losing : losing ≡ b
+  is-losing = sym (is-b ∙ rw (half-at, is-which, is-heights))
+
+  pub swept-clean : b ≡ true → c < 13 → (y : Memory) → memory-view y ≡ cleaned (is-kept (as-map false which) (as-map 0 heights)) (memory-view (getD (t .live) c no-memory))
+      → Swept s p (c + 1) (with-memories t (set (t .live) c y) (t .copy))
+  unfolding half-live swept-live
+  swept-clean e h y is-y =
+      let (j, k, m, n) = inv .sizes in
+      record {
+        rest = inv .rest;
+        sizes = (j, k, simp length-set m, n);
+        live =
+            memories-set (t .live) c y (omega arith)
+            ∙ rw (inv .live, upd-upd)
+            (front-put c _ _ _ refl (memory-view y) (is-y ∙ rw (half-at, is-which, is-heights) (live-cleaned _ _ _ c _ _ (is-losing ∙ e))));
+        copy = inv .copy;
+      }
+
+  pub swept-keep : b ≡ false → Swept s p (c + 1) t
+  unfolding half-live swept-live
+  swept-keep e = record {
+    rest = inv .rest;
+    sizes = inv .sizes;
+    live = inv .live ∙ front-put c _ _ _ refl _ (live-kept _ _ _ c _ _ (is-losing ∙ e));
+    copy = inv .copy;
+  }
+
+module _ (s : State) (p c : ℕ) (t : State) (inv : Swept s p c t) where
   -- past the arrays' ends nothing changes
   live-past : (i : ℕ) → 13 ≤ i → swept-live s p i ≡ memories (s .live) i
   unfolding swept-live

@@ -10,7 +10,7 @@ ghost use Rattle.layout.specs.View.{layout-view};
 ghost use Rattle.state.specs.View.{memory-view, statuses, view};
 ghost use Rattle.state.specs.Outcome.{outcome-view, tried};
 ghost use Rattle.machines.specs.Asking.{runs};
-ghost use Rattle.checkpoints.specs.Parts.{cleaned, touches, Visits};
+ghost use Rattle.checkpoints.specs.Parts.{cleaned, loses};
 ghost use Rattle.checkpoints.specs.Whole.{Judges};
 use layout::Layout;
 use protocol::Answer;
@@ -20,80 +20,36 @@ use state::State;
 use state::Stepped;
 
 // The table's entries above the height, all noted.
-fn pruned(m: Memory) -> Memory
+pub fn pruned(mut m: Memory) -> Memory
     ensures { λ r. ⌜ memory-view r ≡ pruned (memory-view m) ⌝ }
 {
-    let t = m.table;
-    let u = table::prune(t, m.height);
-    let mut r = m;
-    r.table = u;
-    r
+    m.table = table::prune(m.table, m.height);
+    m
 }
 
 // The log without the messages to `drops` that have a TN below the receiver's height.
-fn cleaned(m: Memory, heights: [u16; 13], drops: [bool; 13]) -> Memory
+pub fn cleaned(mut m: Memory, heights: [u16; 13], drops: [bool; 13]) -> Memory
     ensures { λ r. ⌜ memory-view r ≡ cleaned (is-kept (as-map false drops) (as-map 0 heights)) (memory-view m) ⌝ }
 {
-    let x = m.log;
-    let y = log::clean(x, heights, drops);
-    let mut r = m;
-    r.log = y;
-    r
+    m.log = log::clean(m.log, heights, drops);
+    m
 }
 
-// What a checkpoint leaves of a chare's memory and of its copy.
-pub struct Visited {
-    pub live: Memory,
-    pub copy: Memory,
-}
-
-// Chare `c` has something to do at a checkpoint: it is on the machine, or its log is on a machine that is up, or the desk's, and holds
-// something.
-pub fn touches(l: Layout, m: [Machine; 7], which: [bool; 13], c: u8, live: Memory) -> bool
-    ensures { λ r. ⌜ r ≡ touches (layout-view l) (statuses m) (as-map false which) c (memory-view live) ⌝ }
-{
-    let i = c as usize;
-    if 13 <= i {
-        return true;
-    }
-    if which[i] {
-        return true;
-    }
-    let g = live.log;
-    if log::count(g) == 0 {
-        return false;
-    }
-    machines::is_up(m, layout::home(l, c))
-}
-
-// The part of a checkpoint that is chare `c`'s: if it is on the machine, its table is pruned and its copy made anew; then its log, if it
-// is the desk's or on a machine that is up, drops what the copies cover.
-pub fn visit(
+// The log of chare `c` loses something: it is the desk's or on a machine that is up, and a message in it is covered.
+pub fn loses(
     l: Layout,
     m: [Machine; 7],
     heights: [u16; 13],
     which: [bool; 13],
     c: u8,
     live: Memory,
-    copy: Memory,
-) -> Visited
-    ensures { λ r. ⌜ Visits l m heights which c live copy r ⌝ }
+) -> bool
+    ensures { λ r. ⌜ r ≡ loses (layout-view l) (statuses m) (is-kept (as-map false which) (as-map 0 heights)) c (memory-view live) ⌝ }
 {
-    let mut x = live;
-    let mut k = copy;
-    let i = c as usize;
-    if i < 13 {
-        if which[i] {
-            let y = pruned(x);
-            x = y;
-            k = y;
-        }
+    if log::drops_none(live.log, heights, which) {
+        return false;
     }
-    if machines::is_up(m, layout::home(l, c)) {
-        let y = cleaned(x, heights, which);
-        x = y;
-    }
-    Visited { live: x, copy: k }
+    machines::is_up(m, layout::home(l, c))
 }
 
 // Two machines are up.
@@ -114,7 +70,8 @@ pub fn judge(l: Layout, lost: bool, m: [Machine; 7], p: u8) -> u8
     machines::first_no(l.set, layout::is_machine(l, p), lost, both_up(m, p, b))
 }
 
-// The parts of a checkpoint, chare by chare; then the buddy has the copy and no notes.
+// Chare by chare: if it is on the machine, its table is pruned and its copy made anew; then its log, if it is the desk's or on a machine
+// that is up, drops what the copies cover. Then the buddy has the copy and no notes.
 fn checkpointed(s: State, p: u8) -> State
     requires { ⌜ (1 ≤ p) × (p ≤ 6) ⌝ }
     ensures { λ r. ⌜ view r ≡ checkpoint (view s) p ⌝ }
@@ -130,14 +87,16 @@ fn checkpointed(s: State, p: u8) -> State
         let c = n;
         n += 1;
         let i = c as usize;
-        let x = r.live[i];
-        if touches(l, m, which, c, x) {
-            let k = r.copy[i];
-            let v = visit(l, m, heights, which, c, x, k);
-            let y = v.live;
-            let z = v.copy;
+        if which[i] {
+            let x = r.live[i];
+            let y = pruned(x);
             r.live[i] = y;
-            r.copy[i] = z;
+            r.copy[i] = y;
+        }
+        let x = r.live[i];
+        if loses(l, m, heights, which, c, x) {
+            let y = cleaned(x, heights, which);
+            r.live[i] = y;
         }
     }
     let q = p as usize;

@@ -4,8 +4,9 @@ use mathlib.Core.Bool.{Bool, true, false, not}
 use mathlib.Core.Logic.{inl, inr}
 use mathlib.Core.List.{List}
 use Prim.Native.Nat.{ℕ, _≤_}
-use borrow.Author.Tests.{eq-eqb, ne-eqb, lt-ltb, le-ltb, lt-leb, le-leb}
-use lib.Dec.{ltb, leb}
+use native.Mathlib.Omega.{arith}
+use borrow.Author.Tests.{eqb-true, eqb-false, eq-eqb, ne-eqb, lt-ltb, le-ltb, lt-leb, le-leb}
+use lib.Dec.{eqb, ltb, leb}
 use lib.ListN.{length, getD}
 use Rattle.lists.specs.Tests.{either, lt?}
 use Rattle.arrays.specs.ArrayMap.{as-map, map-beyond}
@@ -49,3 +50,12 @@ module _ (drops : List Bool) (heights : List ℕ) (x : Logged) where
     pub kept-high : (x .tn ≡ 0 → ⊥) → leb (getD heights (x .message .receiver) 0) (x .tn) ≡ is-kept (as-map false drops) (as-map 0 heights) x
     unfolding is-kept as-map
     kept-high n = rw (e, ne-eqb (x .tn) 0 n) (not-below (x .tn) (getD heights (x .message .receiver) 0))
+
+  -- past the heights a message stays too
+  pub kept-short : length heights ≤ x .message .receiver → true ≡ is-kept (as-map false drops) (as-map 0 heights) x
+  unfolding as-map
+  kept-short h =
+      let low : leb (getD heights (x .message .receiver) 0) (x .tn) ≡ true = rw (map-beyond 0 heights (x .message .receiver) h) (le-leb 0 (x .tn) (omega arith)) in
+      either (getD drops (x .message .receiver) false)
+      (λ e. either (eqb (x .tn) 0) (λ z. kept-unticketed e (eqb-true (x .tn) 0 z)) (λ n. sym low ∙ kept-high e (eqb-false (x .tn) 0 n)))
+      kept-other

@@ -4,6 +4,7 @@ pub mod Chosen
 pub mod Asking
 pub mod Homes
 pub mod Beyond
+pub mod Readings
 pub mod Standing
 pub mod Begin
 pub mod Shown

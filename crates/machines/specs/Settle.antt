@@ -1,16 +1,16 @@
 -- The end of catching up, on the parts that it reads and changes.
-use mathlib.Core.Path.{_≡_, refl}
+use mathlib.Core.Path.{_≡_, refl, _∙_}
 use mathlib.Core.Bool.{Bool, true, false, not, _&&_, _||_}
 use mathlib.Core.List.{List}
 use Prim.Native.Nat.{ℕ, _<_, _≤_}
 use borrow.Author.Tests.{lt-leb, le-leb}
 use lib.Dec.{leb}
-use lib.ListN.{getD}
+use lib.ListN.{getD, replicate}
 use Rattle.lists.specs.Lists.{allb}
-use Rattle.arrays.specs.ArrayMap.{as-map}
+use Rattle.arrays.specs.ArrayMap.{as-map, map-blank}
 use Rattle.protocol.specs.declared.Status.{Status}
 use Rattle.protocol.specs.declared.Status.the-variants.{Up, Down, CatchingUp}
-use Rattle.protocol.specs.Parts.{State, with-status, is-down, is-catching-up, every-machine, every-chare}
+use Rattle.protocol.specs.Parts.{Job, State, on, with-status, is-down, is-catching-up, every-machine, every-chare}
 use Rattle.protocol.specs.Restart.{settle-machine, settle}
 use Rattle.layout.specs.declared.Layout.{Layout}
 use Rattle.layout.specs.View.{layout-view}
@@ -19,6 +19,7 @@ use Rattle.log.specs.Log.{has-ticket}
 use Rattle.state.specs.declared.Machine.{Machine}
 use Rattle.state.specs.declared.Memory.{Memory}
 use Rattle.state.specs.View.{view, statuses, helds}
+use Rattle.machines.specs.Readings.{heights-of, waits-of}
 use Rattle.machines.specs.declared.Course.{Course}
 use Rattle.state.specs.declared.State as code
 
@@ -65,6 +66,37 @@ module _ (which waits : List Bool) (heights target : List ℕ) (c : ℕ) where
     unfolding passes as-map
     pass-there h = rw (e, le-leb (getD target c 0) (getD heights c 0) h)
 
+-- machine p is not catching up, or some chare on it is below its target
+unfoldable pub lags : Job → (ℕ → Status) → (ℕ → ℕ) → (ℕ → ℕ) → ℕ → Bool
+lags j status target height p = calm false (status p) || not (allb (passes (on j p) height (λ _. false) target) every-chare)
+
+-- some machine that is catching up has all its chares at their targets
+unfoldable pub reaches : Job → (ℕ → Status) → (ℕ → ℕ) → (ℕ → ℕ) → Bool
+reaches j status target height = not (allb (lags j status target height) every-machine)
+
+module _ (j : Job) (status : ℕ → Status) (target heights : List ℕ) (p : ℕ) where
+  abbrev lagging : Bool
+  lagging = lags j status (as-map 0 target) (as-map 0 heights) p
+
+  pub lags-calm : calm false (status p) ≡ true → lagging ≡ true
+  unfolding lags
+  lags-calm e = rw e
+
+  -- as the code asks: no chare waits
+  module _ (n : calm false (status p) ≡ false) (which : List Bool) (is-which : as-map false which ≡ on j p) where
+    abbrev all-there : Bool
+    all-there = allb (passes (as-map false which) (as-map 0 heights) (as-map false (replicate 13 false)) (as-map 0 target)) every-chare
+
+    is-lagging : lagging ≡ not all-there
+    unfolding lags
+    is-lagging = rw (n, is-which, map-blank)
+
+    pub lags-behind : all-there ≡ false → lagging ≡ true
+    lags-behind e = is-lagging ∙ rw e
+
+    pub lags-not : all-there ≡ true → lagging ≡ false
+    lags-not e = is-lagging ∙ rw e
+
 -- r is q after machine p settles, in every state with that layout, these heights and these logs
 pub record Settles (l : Layout) (heights : List ℕ) (waits : List Bool) (p : ℕ) (q r : Course) : Type 0 where
   pub settled : (s : State) → layout-view l ≡ s .job → as-map 0 heights ≡ (λ c. s .live c .height) → as-map false waits ≡ (λ c. not (allb has-ticket (s .live c .log))) → at s r ≡ settle-machine (at s q) p
@@ -77,6 +109,10 @@ with-course s q = record { layout = s .layout; lost = s .lost; machines = q .mac
 -- r is where the machines are after all settle, in every state with these parts
 unfoldable pub Runs : Layout → List Machine → List ℕ → List Memory → Course → Type 0
 Runs l machines target live r = (s : code.State) → s .layout ≡ l → s .machines ≡ machines → s .target ≡ target → s .live ≡ live → view (with-course s r) ≡ settle (view s)
+
+-- the same by the heights and by whose logs wait, of any memories that have these
+unfoldable pub Settling : Layout → List Machine → List ℕ → List ℕ → List Bool → Course → Type 0
+Settling l machines target heights waits r = (live : List Memory) → as-map 0 heights ≡ heights-of live → as-map false waits ≡ waits-of live → Runs l machines target live r
 
 -- ---- the loops
 pub each-machine : (f : ℕ → Bool) → allb f every-machine ≡ each f 6 1

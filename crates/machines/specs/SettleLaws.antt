@@ -1,14 +1,16 @@
 -- A machine settles, and all of them in turn: what the code does on the parts is what the definitions do on the state.
 use mathlib.Core.Path.{_≡_, refl, sym, ap, _∙_, subst, fun-ext}
 use mathlib.Core.Bool.{Bool, true, false, not, _||_}
-use mathlib.Core.List.{List, [], _∷_}
+use mathlib.Core.Logic.{inl, inr}
+use mathlib.Core.List.{List, [], _∷_, List·Memᴰ·head as here, List·Memᴰ·tail as there}
 use Prim.Native.Nat.{ℕ, zero, suc, _+_, _-_, _<_, _≤_}
 use native.Mathlib.Omega.{arith}
 use native.Mathlib.Numerals.{add-one}
 use borrow.Author.Tests.{not-true, not-false}
+use lib.Dec.{leb}
 use lib.ListN.{length, set}
-use Rattle.lists.specs.Lists.{allb, keep}
-use Rattle.lists.specs.Tests.{and-l, and-r}
+use Rattle.lists.specs.Lists.{All, allb, allb-true, true-allb, keep}
+use Rattle.lists.specs.Tests.{either, true-not-false, and-l, and-r, and-i, or-cases, or-l, or-r}
 use Rattle.lists.specs.Map.{upd}
 use Rattle.arrays.specs.ArrayMap.{as-map}
 use Rattle.protocol.specs.declared.Status.{Status}
@@ -23,7 +25,7 @@ use Rattle.state.specs.declared.Machine.{Machine}
 use Rattle.state.specs.declared.Memory.{Memory}
 use Rattle.state.specs.View.{view, memories, statuses, helds}
 use Rattle.machines.specs.Chosen.{chosen, home-chosen}
-use Rattle.machines.specs.Settle.{calm, calm-settled, at, passes, Settles, Runs}
+use Rattle.machines.specs.Settle.{calm, calm-settled, at, passes, lags, reaches, Settles, Runs, Settling}
 use Rattle.machines.specs.Standing.{now, now-status, now-held}
 use Rattle.machines.specs.declared.Course.{Course}
 use Rattle.state.specs.declared.State as code
@@ -110,22 +112,50 @@ module _ (v : State) (s : State) (p : ℕ) (inv : v ≡ settle-all s (span (7 - 
   unfolding settle-all span
   settle-end h = let q : 7 - p ≡ 0 = omega arith in sym (inv ∙ rw q)
 
--- no machine is catching up
-all-stay : (s : State) (l : List ℕ) → allb (λ p. calm false (s .status p)) l ≡ true → s ≡ settle-all s l
-unfolding settle-all allb
-all-stay s [] e = refl
-all-stay s (p ∷ l) e =
-    let n = not-catching s p (calm-is (s .status p) (and-l _ _ e)) in
-    subst (λ t. s ≡ settle-all t l) n (all-stay s l (and-r (calm false (s .status p)) _ e))
+-- no machine is done
+all-stay : (s : State) (l : List ℕ) → All (λ p. s ≡ settle-machine s p) l → s ≡ settle-all s l
+unfolding settle-all
+all-stay s [] h = refl
+all-stay s (p ∷ l) h = subst (λ t. s ≡ settle-all t l) (h p (here refl)) (all-stay s l (λ q i. h q (there i)))
 
+-- none is catching up
 pub settle-calm : (s : State) → allb (λ p. calm false (s .status p)) every-machine ≡ true → s ≡ settle s
 unfolding settle
-settle-calm s e = all-stay s every-machine e
+settle-calm s e = all-stay s every-machine (λ p i. not-catching s p (calm-is (s .status p) (allb-true _ every-machine e p i)))
 
-pub runs-calm : (l : Layout) (machines : List Machine) (target : List ℕ) (live : List Memory) → allb (λ p. calm false (statuses machines p)) every-machine ≡ true
-    → Runs l machines target live (record { machines = machines; target = target })
+-- each that is catching up has a chare below its target
+module _ (s : State) where
+  abbrev height : ℕ → ℕ
+  height c = s .live c .height
+
+  is-there : (p c : ℕ) → (not (on (s .job) p c) || has-caught-up s c) ≡ true → passes (on (s .job) p) height (λ _. false) (s .target) c ≡ true
+  unfolding passes has-caught-up
+  is-there p c e =
+      let far = not (on (s .job) p c) in
+      let high = leb (s .target c) (height c) in
+      elim (or-cases far _ e) [ inl q ↦ or-l far _ q | inr q ↦ or-r far _ (and-i high true (and-l high _ q) refl) ]
+
+  lags-stays : (p : ℕ) → lags (s .job) (s .status) (s .target) height p ≡ true → s ≡ settle-machine s p
+  unfolding lags is-done
+  lags-stays p e = elim (or-cases (calm false (s .status p)) _ e) [
+    | inl q ↦ not-catching s p (calm-is (s .status p) q)
+    | inr q ↦ stays s p (either (is-done s p) (λ d. true-not-false (all-there d) (not-true _ q)) (λ d. d))
+  ]
+    where
+      all-there : is-done s p ≡ true → allb (passes (on (s .job) p) height (λ _. false) (s .target)) every-chare ≡ true
+      all-there d =
+          let h = allb-true _ every-chare (sym (allb-keep _ _ every-chare) ∙ and-r (is-catching-up (s .status p)) _ d) in
+          true-allb _ every-chare (λ c i. is-there p c (h c i))
+
+  pub settle-unreached : reaches (s .job) (s .status) (s .target) height ≡ false → s ≡ settle s
+  unfolding reaches settle
+  settle-unreached e = all-stay s every-machine (λ p i. lags-stays p (allb-true _ every-machine (not-false _ e) p i))
+
+pub runs-unreached : (l : Layout) (machines : List Machine) (target heights : List ℕ) (live : List Memory) → as-map 0 heights ≡ (λ c. memories live c .height)
+    → reaches (layout-view l) (statuses machines) (as-map 0 target) (as-map 0 heights) ≡ false → Runs l machines target live (record { machines = machines; target = target })
 unfolding Runs view
-runs-calm l machines target live e s el em et ev = rw (← em, ← et) (settle-calm (view s) (rw em e))
+runs-unreached l machines target heights live eh e s el em et ev =
+    rw (← em, ← et) (settle-unreached (view s) (rw (el, em, et, ev, ← eh) e))
 
 -- with the machines where it has them itself, a state is as it was
 at-own : (s : code.State) (machines : List Machine) (target : List ℕ) → s .machines ≡ machines → s .target ≡ target → at (view s) (record { machines = machines; target = target }) ≡ view s
@@ -149,9 +179,8 @@ module _ (l : Layout) (heights : List ℕ) (waits : List Bool) (q₀ : Course) w
       held = e .held ∙ inv .held;
     }
 
-    pub going-end : 7 ≤ p → (live : List Memory) → as-map 0 heights ≡ (λ c. memories live c .height)
-        → as-map false waits ≡ (λ c. not (allb has-ticket (memories live c .log))) → Runs l (q₀ .machines) (q₀ .target) live q
-    unfolding Runs at view
+    pub going-end : 7 ≤ p → Settling l (q₀ .machines) (q₀ .target) heights waits q
+    unfolding Settling Runs at view
     going-end h live eh ew s el em et ev =
         let e = settle-end _ _ p (inv .left (view s) (ap layout-view (sym el)) (rw ev eh) (rw ev ew)) h in
         rw (inv .held ∙ ap helds (sym em)) (e ∙ ap settle (at-own s _ _ em et))

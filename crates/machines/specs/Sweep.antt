@@ -7,10 +7,10 @@ use Prim.Native.Nat.{ℕ, _+_, _<_, _≤_}
 use native.Mathlib.Omega.{arith}
 use borrow.Author.Tests.{lt-ltb, le-ltb}
 use lib.Dec.{ltb}
-use lib.ListN.{length, set}
+use lib.ListN.{length, set, replicate, length-set, length-replicate}
 use Rattle.lists.specs.Tests.{eq?, lt?}
 use Rattle.lists.specs.Map.{upd, upd-ind}
-use Rattle.arrays.specs.ArrayMap.{as-map, map-set}
+use Rattle.arrays.specs.ArrayMap.{as-map, map-set, map-blank}
 use Rattle.state.specs.declared.Memory.{Memory}
 use Rattle.state.specs.View.{memory-view, memories}
 use Rattle.state.specs.Store.{memories-set}
@@ -69,3 +69,24 @@ array-put d a k f g v inv h e = map-set d a k v h ∙ front-put k f g (as-map d 
 
 pub memory-put : (l : List Memory) (k : ℕ) (f g : ℕ → parts.Memory) (m : Memory) → memories l ≡ front k f g → k < length l → memory-view m ≡ f k → memories (set l k m) ≡ front (k + 1) f g
 memory-put l k f g m inv h e = memories-set l k m h ∙ front-put k f g (memories l) inv (memory-view m) e
+
+-- a loop that fills an array of n from f: it has passed k, and the rest is d
+module _ {A : Type 0} (d : A) (n : ℕ) (f : ℕ → A) where
+  pub record Filled (k : ℕ) (a : List A) : Type 0 where
+    pub within : k ≤ n
+    pub size : length a ≡ n
+    pub map : as-map d a ≡ front k f (λ _. d)
+
+  pub filled-start : (k : ℕ) → k ≤ n → ((j : ℕ) → j < k → f j ≡ d) → Filled k (replicate n d)
+  filled-start k h e = record { within = h; size = length-replicate n d; map = map-blank d n ∙ front-start k f (λ _. d) e }
+
+  module _ (k : ℕ) (a : List A) (inv : Filled k a) where
+    pub filled-more : k < n → (v : A) → v ≡ f k → Filled (k + 1) (set a k v)
+    filled-more h v e = record {
+      within = omega arith;
+      size = simp length-set (inv .size);
+      map = array-put d a k f (λ _. d) v (inv .map) (omega arith) e;
+    }
+
+    pub filled-end : n ≤ k → ((j : ℕ) → n ≤ j → f j ≡ d) → as-map d a ≡ f
+    filled-end h e = front-end k f (λ _. d) (as-map d a) (inv .map) n h e

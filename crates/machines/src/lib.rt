@@ -18,7 +18,7 @@ ghost use Rattle.state.specs.View.{memory-view, memories, statuses, view};
 ghost use Rattle.state.specs.Outcome.{outcome-view, tried};
 ghost use Rattle.machines.specs.Homes.{residents};
 ghost use Rattle.machines.specs.Shown.{shown, Shows};
-ghost use Rattle.machines.specs.Settle.{calm, passes, Settles, Runs};
+ghost use Rattle.machines.specs.Settle.{calm, passes, reaches, Settles, Settling};
 ghost use Rattle.machines.specs.Chosen.{chosen};
 ghost use Rattle.machines.specs.Asking.{first-no, runs};
 ghost use Rattle.machines.specs.Begin.{first-memories, begin-with, Ready};
@@ -321,6 +321,22 @@ fn all_pass(which: [bool; 13], heights: [u16; 13], waits: [bool; 13], target: [u
     true
 }
 
+// Some machine that is catching up has all its chares at their targets. Else nothing settles.
+pub fn reached(l: Layout, machines: [Machine; 7], target: [u16; 13], heights: [u16; 13]) -> bool
+    ensures { λ r. ⌜ r ≡ reaches (layout-view l) (statuses machines) (as-map 0 target) (as-map 0 heights) ⌝ }
+{
+    let none = [false; 13];
+    for p in 1..=6 {
+        if !is_calm(machines, false, p) {
+            let which = on_machine(l, p);
+            if all_pass(which, heights, none, target) {
+                return true;
+            }
+        }
+    }
+    false
+}
+
 // Machine `p` is up, if it is done catching up, and its chares have no target any more.
 fn settle_machine(q: Course, l: Layout, heights: [u16; 13], waits: [bool; 13], p: u8) -> Course
     requires { ⌜ (1 ≤ p) × (p ≤ 6) ⌝ }
@@ -346,18 +362,19 @@ fn settle_machine(q: Course, l: Layout, heights: [u16; 13], waits: [bool; 13], p
     Course { machines, target }
 }
 
-// The course once every machine that is done catching up is up.
-pub fn settled(l: Layout, machines: [Machine; 7], target: [u16; 13], live: [Memory; 13]) -> Course
-    ensures { λ r. ⌜ Runs l machines target live r ⌝ }
+// The course once every machine that is done catching up is up, by the chares' heights and whose logs wait for a TN.
+pub fn settled(
+    l: Layout,
+    machines: [Machine; 7],
+    target: [u16; 13],
+    heights: [u16; 13],
+    waits: [bool; 13],
+) -> Course
+    ensures { λ r. ⌜ Settling l machines target heights waits r ⌝ }
 {
     let mut q = Course { machines, target };
-    if all_calm(machines, false) {
-        return q;
-    }
-    let h = heights(live);
-    let t = waiting(live);
     for p in 1..=6 {
-        let r = settle_machine(q, l, h, t, p);
+        let r = settle_machine(q, l, heights, waits, p);
         q = r;
     }
     q
@@ -371,7 +388,7 @@ pub fn settle(s: State) -> State
     let machines = s.machines;
     let target = s.target;
     let live = s.live;
-    let q = settled(l, machines, target, live);
+    let q = settled(l, machines, target, heights(live), waiting(live));
     let mut r = s;
     let m = q.machines;
     let u = q.target;

@@ -1,29 +1,16 @@
 -- `settled`: at machine p of the loop, the machines from p on are still to settle.
-use mathlib.Core.Path.{sym, _∙_}
 use Prim.Native.Nat.{_≤_, _-_}
 use native.Mathlib.Omega.{arith}
 use borrow.Author.Needs.{needs}
-use Rattle.machines.specs.SettleLaws.{Going, going-start, going-more, going-end, runs-calm}
+use Rattle.machines.specs.SettleLaws.{Going, going-start, going-more, going-end}
 use Rattle.machines.proofs.settled.Statement.{statement}
 use Rattle.machines.proofs.settled.Tie as tie
 
 abbrev Inv-loop : tie.InvT-loop
-Inv-loop l q₀ h t p₀ q p = (1 ≤ p) × (p ≤ 7) × Going l h t q₀ p q
+Inv-loop l heights waits q₀ p₀ q p = (1 ≤ p) × (p ≤ 7) × Going l heights waits q₀ p q
 
 abbrev μ-loop : tie.MeasureT-loop
-μ-loop l q₀ h t p₀ q p = 7 - p
-
-all-calm-requires : tie.Need-all-calm-requires Inv-loop μ-loop
-all-calm-requires c κs = search needs
-
-returns : tie.Need-returns Inv-loop μ-loop
-returns c = runs-calm _ _ _ _ (sym (c .before .all-calm .ensures) ∙ c .if1 .taken)
-
-heights-requires : tie.Need-heights-requires Inv-loop μ-loop
-heights-requires c κs = search needs
-
-waiting-requires : tie.Need-waiting-requires Inv-loop μ-loop
-waiting-requires c κs = search needs
+μ-loop l heights waits q₀ p₀ q p = 7 - p
 
 loop-holds : tie.Need-loop-holds Inv-loop μ-loop
 loop-holds c = (search needs, search needs, going-start _ _ _ _)
@@ -42,11 +29,8 @@ loop-again c =
     let l = c .before .before .loop in
     (search needs, search needs, going-more _ _ _ _ _ _ (l .inv .2) (omega arith) _ (c .settle-machine .ensures))
 
-returns-2 : tie.Need-returns-2 Inv-loop μ-loop
-returns-2 c =
-    let l = c .before .loop in
-    let w = c .before .before in
-    going-end _ _ _ _ _ _ (l .inv .2) (omega arith) _ (w .before .heights .ensures) (w .waiting .ensures)
+returns : tie.Need-returns Inv-loop μ-loop
+returns c = going-end _ _ _ _ _ _ (c .before .loop .inv .2) (omega arith)
 
 pub settled-spec : {M : Type 1} → statement M
 settled-spec =
@@ -54,13 +38,9 @@ settled-spec =
     (tie.spec
     Inv-loop
     μ-loop
-    all-calm-requires
-    returns
-    heights-requires
-    waiting-requires
     loop-holds
     settle-machine-requires
     add-p
     loop-less
     loop-again
-    returns-2)
+    returns)
