@@ -13,7 +13,7 @@ use Rattle.sending.specs.Verdict.{verdict}
 use Rattle.sending.specs.Works.{chare-questions}
 
 abbrev pub bare : Layout → Bool → List Machine → State
-bare l b q = record { layout = l; lost = b; machines = q; target = []; live = []; copy = []; notes = []; wire = record { len = 0; items = [] } }
+bare l b q = record { layout = l; lost = b; machines = q; target = []; live = []; copy = []; notes = []; wire = record { len = 0; words = [] } }
 
 pub bare-asked : (l : Layout) (b : Bool) (q : List Machine) (c : ℕ) {n : ℕ} → n ≡ verdict 2 (chare-questions (view (bare l b q)) c)
     → (s : State) → s .layout ≡ l → s .lost ≡ b → s .machines ≡ q → n ≡ verdict 2 (chare-questions (view s) c)

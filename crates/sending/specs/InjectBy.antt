@@ -1,13 +1,12 @@
--- Frame 10 by its parts: the questions put to them, and the state with what an inject leaves put back.
+-- Frame 10 by the parts of a state that it reads and changes: the questions put to them, and the desk's message sent where the state stands.
 use mathlib.Core.Path.{_≡_, refl, sym, ap, _∙_}
 use mathlib.Core.Bool.{Bool, true, not, _&&_}
 use mathlib.Core.List.{List, [], _∷_, _++_}
-use Prim.Native.Nat.{ℕ, _+_, _<_}
+use Prim.Native.Nat.{ℕ, _+_, _<_, min}
 use native.Mathlib.Omega.{arith}
 use borrow.Author.Tests.{leb-true, ltb-true}
 use lib.Dec.{ltb, leb}
 use lib.ListN.{length, getD, set}
-use lib.Seq.{set-getD}
 use Rattle.lists.specs.Tests.{and-l}
 use Rattle.lists.specs.Questions.{Yes}
 use Rattle.lists.specs.Map.{upd-self}
@@ -17,76 +16,55 @@ use Rattle.protocol.specs.declared.Answer.the-variants.{Accepted, Refused}
 use Rattle.protocol.specs.Parts as parts
 use Rattle.protocol.specs.Frames.{between}
 use Rattle.protocol.specs.Sending.{send, next-message}
+use Rattle.protocol.specs.Step.{Outcome}
 use Rattle.protocol.specs.Questions.{inject-questions, is-chare}
 use Rattle.layout.specs.declared.Layout.{Layout}
 use Rattle.layout.specs.View.{layout-view}
-use Rattle.notes.specs.declared.Notes.{Notes}
 use Rattle.wire.specs.declared.Wire.{Wire}
-use Rattle.wire.specs.View.{packets}
+use Rattle.wire.specs.View.{waiting, packets}
 use Rattle.state.specs.declared.Memory.{Memory}
-use Rattle.state.specs.declared.Machine.{Machine}
 use Rattle.state.specs.declared.State.{State}
-use Rattle.state.specs.View.{memory-view, memories, view, no-memory, no-notes}
+use Rattle.state.specs.View.{memory-view, memories, view, no-memory}
 use Rattle.state.specs.Outcome.{outcome-view, tried}
-use Rattle.state.specs.Store.{memories-set}
-use Rattle.state.specs.PutBack.{put-back, Sees, nothing-changed}
-use Rattle.sending.specs.declared.Injected.{Injected}
 use Rattle.sending.specs.declared.ticket.Ticket.the-variants.{Remote}
-use Rattle.sending.specs.Ticket.{tn-of, table-after, packets-of, logged}
+use Rattle.sending.specs.Ticket.{grows, tn-of, table-after, packets-of, message-after, logged}
 use Rattle.sending.specs.Sent.{sent, ticketed}
 use Rattle.sending.specs.SentLaws.{remote-sent}
 use Rattle.sending.specs.Store.{chare-index}
 use Rattle.sending.specs.Inject.{desk-room, desk-asked, desk-remote}
+use Rattle.sending.specs.InPlace.{with-live, memory-put}
 use Rattle.sending.specs.Verdict.{verdict, all-yes, judged-no, judged-yes}
-use Rattle.sending.specs.ByParts.{JudgesInject, Injects}
+
+abbrev pub inject-outcome : State → ℕ → ℕ → ℕ → Outcome
+inject-outcome s c value hops = tried (view s) (inject-questions (view s) c value hops) (send (view s) 0 c value hops)
 
 -- ---- the questions
+-- m is the desk's memory, and len the count of the wire
+unfoldable pub JudgesInject : Layout → Bool → Memory → ℕ → ℕ → ℕ → ℕ → Type 0
+JudgesInject l b m len c hops n =
+    (s : State) → s .layout ≡ l → s .lost ≡ b → getD (s .live) 0 no-memory ≡ m → min len 128 ≡ length (packets (s .wire))
+    → (value : ℕ) → n ≡ verdict 2 (inject-questions (view s) c value hops)
+
 -- 7 to 11
-unfoldable pub room-by : Memory → Wire → ℕ → List Bool
-room-by m w c =
+unfoldable pub room-by : Memory → ℕ → ℕ → List Bool
+room-by m len c =
     leb (memory-view m .sn c + 1) 60000
     ∷ true
     ∷ ltb (length (memory-view m .log)) 16
     ∷ true
-    ∷ leb (length (packets w) + 1) 128
+    ∷ leb (min len 128 + 1) 128
     ∷ []
 
-unfoldable pub asked-by : Layout → Bool → Memory → Wire → ℕ → ℕ → List Bool
-asked-by l b m w c hops = layout-view l .set ∷ (between 1 (layout-view l .chares) c && leb hops 7) ∷ not b ∷ true ∷ true ∷ room-by m w c
+unfoldable pub asked-by : Layout → Bool → Memory → ℕ → ℕ → ℕ → List Bool
+asked-by l b m len c hops = layout-view l .set ∷ (between 1 (layout-view l .chares) c && leb hops 7) ∷ not b ∷ true ∷ true ∷ room-by m len c
 
-module _ (l : Layout) (b : Bool) (m : Memory) (w : Wire) (c hops : ℕ) where
-  asked : (s : State) → s .layout ≡ l → s .lost ≡ b → getD (s .live) 0 no-memory ≡ m → s .wire ≡ w → (value : ℕ) → inject-questions (view s) c value hops ≡ asked-by l b m w c hops
-  unfolding asked-by room-by desk-room is-chare view memories as-map
-  asked s e f g h value = rw (desk-asked (view s) c value hops, e, f, g, h)
+asked : (s : State) (len : ℕ) → min len 128 ≡ length (packets (s .wire)) → (c value hops : ℕ) → inject-questions (view s) c value hops ≡ asked-by (s .layout) (s .lost) (getD (s .live) 0 no-memory) len c hops
+unfolding asked-by room-by desk-room is-chare view memories as-map
+asked s len size c value hops = rw (desk-asked (view s) c value hops, size)
 
-  pub judges : (n : ℕ) → n ≡ verdict 2 (asked-by l b m w c hops) → JudgesInject l b m w c hops n
-  unfolding JudgesInject
-  judges n e s f g h i value = e ∙ ap (verdict 2) (sym (asked s f g h i value))
-
-  -- what is so of every state with these parts is so of the parts
-  some-state : State
-  some-state = record { layout = l; lost = b; machines = []; target = []; live = m ∷ []; copy = []; notes = []; wire = w }
-
-  module _ (n : ℕ) (j : JudgesInject l b m w c hops n) (e : n ≡ 0) where
-    yes-by : Yes (asked-by l b m w c hops)
-    unfolding JudgesInject some-state
-    yes-by = all-yes 1 (asked-by l b m w c hops) (ap (verdict 2) (sym (asked some-state refl refl refl refl 0)) ∙ sym (j some-state refl refl refl refl 0) ∙ e)
-
-    pub chare-in : c < 13
-    unfolding asked-by
-    chare-in = chare-index l c (and-l (between 1 (layout-view l .chares) c) (leb hops 7) (yes-by .1 .0))
-
-    pub sn-below : memory-view m .sn c < 60000
-    unfolding asked-by room-by
-    sn-below = omega (arith, leb-true (memory-view m .sn c + 1) 60000 (yes-by .1 .1 .1 .1 .1 .0))
-
-    pub log-below : length (memory-view m .log) < 16
-    unfolding asked-by room-by
-    log-below = ltb-true (length (memory-view m .log)) 16 (yes-by .1 .1 .1 .1 .1 .1 .1 .0)
-
-    pub wire-below : length (packets w) < 128
-    unfolding asked-by room-by
-    wire-below = omega (arith, leb-true (length (packets w) + 1) 128 (yes-by .1 .1 .1 .1 .1 .1 .1 .1 .1 .0))
+pub judges : (l : Layout) (b : Bool) (m : Memory) (len c hops n : ℕ) → n ≡ verdict 2 (asked-by l b m len c hops) → JudgesInject l b m len c hops n
+unfolding JudgesInject
+judges l b m len c hops n e s f g h size value = e ∙ rw (asked s len size c value hops, f, g, h)
 
 -- ---- the message sent
 -- the ticket comes later: the log and the wire alone change
@@ -94,45 +72,48 @@ only-logged : (s : parts.State) (x : Message) → sent s x Remote ≡ parts.with
 unfolding sent ticketed tn-of table-after
 only-logged s x = rw (upd-self (x .receiver) (s .live))
 
-abbrev pub desk-message : Memory → ℕ → ℕ → ℕ → Message
-desk-message m c value hops = record { sender = 0; receiver = c; sn = memory-view m .sn c + 1; value = value; hops = hops }
+module _ (s : State) (len : ℕ) (size : min len 128 ≡ length (packets (s .wire))) (c value hops n : ℕ) (j : JudgesInject (s .layout) (s .lost) (getD (s .live) 0 no-memory) len c hops n) where
+  abbrev desk : parts.Memory
+  desk = memory-view (getD (s .live) 0 no-memory)
 
-module _ (s : State) {l : Layout} {b : Bool} {q : List Machine} (i h : ℕ) {m : Memory} {n : Notes} {w : Wire} (x : Sees s l b q i m h n w) where
-  -- the note list is as it was
-  parts-put : (r : Memory) (u : Wire) → view (put-back s i r h n u) ≡ parts.with-wire (parts.with-memory (view s) i (memory-view r)) (packets u)
-  unfolding view
-  parts-put r u = rw (← x .notes, set-getD (s .notes) h no-notes, memories-set (s .live) i r (x .here))
+  said : n ≡ verdict 2 (inject-questions (view s) c value hops)
+  unfolding JudgesInject
+  said = j s refl refl refl size value
 
-module _ (l : Layout) (b : Bool) (m : Memory) (w : Wire) (c value hops n : ℕ) (j : JudgesInject l b m w c hops n) where
-  pub inject-refused : (n ≡ 0 → ⊥) → Injects l b m w c value hops (record { answer = Refused n; desk = m; wire = w })
-  unfolding Injects JudgesInject outcome-view tried
-  inject-refused d s q h k x =
-      let a = j s (x .layout) (x .lost) (x .memory) (x .wire) value in
-      rw (nothing-changed s 0 h x, judged-no (view s) 2 (inject-questions (view s) c value hops) _ (rw a at d), a)
+  pub inject-refused : (n ≡ 0 → ⊥) → outcome-view (record { state = s; answer = Refused n }) ≡ inject-outcome s c value hops
+  unfolding outcome-view tried
+  inject-refused f = rw (judged-no (view s) 2 (inject-questions (view s) c value hops) _ (rw said at f), said)
 
-  module _ (e : n ≡ 0) (r : Memory) (u : Wire) (logs : memory-view r ≡ logged (memory-view m) (desk-message m c value hops) 0) (puts : packets u ≡ packets w ++ packets-of (desk-message m c value hops) Remote) where
-    put-sent : (s : State) (q : List Machine) (h : ℕ) (k : Notes) → Sees s l b q 0 m h k w → view (put-back s 0 r h k u) ≡ send (view s) 0 c value hops
-    unfolding next-message view memories as-map
-    put-sent s q h k x =
-        let f : view s .live 0 ≡ memory-view m = ap memory-view (x .memory) in
-        let g : view s .wire ≡ packets w = ap packets (x .wire) in
-        parts-put s 0 h x r u
-        ∙ rw (remote-sent (view s) 0 c value hops (desk-remote (view s) c), only-logged (view s) (next-message (view s) 0 c value hops), f, g, logs, puts)
+  module _ (none : n ≡ 0) where
+    yes-by : Yes (asked-by (s .layout) (s .lost) (getD (s .live) 0 no-memory) len c hops)
+    yes-by = all-yes 1 _ (ap (verdict 2) (sym (asked s len size c value hops)) ∙ sym said ∙ none)
 
-    pub inject-accepted : Injects l b m w c value hops (record { answer = Accepted; desk = r; wire = u })
-    unfolding Injects JudgesInject outcome-view tried
-    inject-accepted s q h k x =
-        let a = sym (j s (x .layout) (x .lost) (x .memory) (x .wire) value) ∙ e in
-        rw (put-sent s q h k x, judged-yes (view s) 1 (inject-questions (view s) c value hops) _ a)
+    chare-in : c < 13
+    unfolding asked-by
+    chare-in = chare-index (s .layout) c (and-l (between 1 (layout-view (s .layout) .chares) c) (leb hops 7) (yes-by .1 .0))
 
--- the frame: the parts of s itself put back, and the rest as it was
-pub frame-injects : (s : State) (c value hops : ℕ) (r : Injected) → 0 < length (s .live) → 0 < length (s .notes) → Injects (s .layout) (s .lost) (getD (s .live) 0 no-memory) (s .wire) c value hops r
-    → outcome-view (record {
-      state = record { layout = s .layout; lost = s .lost; machines = s .machines; target = s .target; live = set (s .live) 0 (r .desk); copy = s .copy; notes = s .notes; wire = r .wire };
-      answer = r .answer;
-    })
-    ≡ tried (view s) (inject-questions (view s) c value hops) (send (view s) 0 c value hops)
-unfolding Injects
-frame-injects s c value hops r here there i =
-    let n = getD (s .notes) 0 no-notes in
-    rw (set-getD (s .notes) 0 no-notes) at (i s (s .machines) 0 n (record { layout = refl; lost = refl; machines = refl; memory = refl; notes = refl; wire = refl; here = here; there = there }))
+    sn-below : desk .sn c < 60000
+    unfolding asked-by room-by
+    sn-below = omega (arith, leb-true (desk .sn c + 1) 60000 (yes-by .1 .1 .1 .1 .1 .0))
+
+    log-below : length (desk .log) < 16
+    unfolding asked-by room-by
+    log-below = ltb-true (length (desk .log)) 16 (yes-by .1 .1 .1 .1 .1 .1 .1 .0)
+
+    wire-below : length (waiting (s .wire .words) (s .wire .len)) < 128
+    unfolding asked-by room-by packets
+    wire-below = omega (arith, size, leb-true (min len 128 + 1) 128 (yes-by .1 .1 .1 .1 .1 .1 .1 .1 .1 .0))
+
+    -- m is the message, g the desk's memory with it logged, and w the wire
+    pub inject-done : (m : Message) → (c < 13 → desk .sn c < 60000 → m ≡ message-after 0 c (desk .sn c) value hops)
+        → (g : Memory) → (m .receiver < 13 → length (desk .log) < 16 → memory-view g ≡ logged desk m 0)
+        → (w : Wire) → ((grows Remote ≡ true → length (waiting (s .wire .words) (s .wire .len)) < 128) → waiting (w .words) (w .len) ≡ waiting (s .wire .words) (s .wire .len) ++ packets-of m Remote)
+        → 0 < length (s .live) → outcome-view (record { state = with-live s (set (s .live) 0 g) w; answer = Accepted }) ≡ inject-outcome s c value hops
+    unfolding outcome-view tried next-message view memories as-map packets
+    inject-done m m-is g logs w packs here =
+        let e = m-is chare-in sn-below in
+        let a = logs (rw e chare-in) log-below in
+        let b = packs (λ f. wire-below) in
+        let v = memory-put s 0 g w here in
+        rw (judged-yes (view s) 1 (inject-questions (view s) c value hops) _ (sym said ∙ none), remote-sent (view s) 0 c value hops (desk-remote (view s) c), only-logged (view s) (next-message (view s) 0 c value hops), ← e)
+        (ap (λ (o : parts.State). record { state = o; answer = Accepted }) (v ∙ rw (a, b)))

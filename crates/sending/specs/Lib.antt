@@ -21,9 +21,9 @@ pub mod WorkLaws
 pub mod NextEntry
 pub mod PlacedView
 pub mod EntryWorked
-pub mod Trio
-pub mod ByParts
 pub mod Bare
-pub mod AtPorts
-pub mod TrioState
+pub mod Planned
+pub mod PlannedLaws
+pub mod Places
+pub mod InPlace
 pub mod InjectBy

@@ -1,5 +1,5 @@
 -- The plans made from the code's memories: that of the sender counts where it is the receiver.
-use mathlib.Core.Path.{_≡_, refl, sym, ap}
+use mathlib.Core.Path.{_≡_, refl, ap}
 use mathlib.Core.Bool.{Bool, true, false, cond}
 use Prim.Native.Nat.{ℕ}
 use lib.Dec.{eqb}
@@ -10,12 +10,9 @@ use Rattle.layout.specs.View.{layout-view}
 use Rattle.state.specs.declared.Memory.{Memory}
 use Rattle.state.specs.declared.State.{State}
 use Rattle.state.specs.View.{memory-view, view}
-use Rattle.sending.specs.declared.Places.{Places}
 use Rattle.sending.specs.declared.ticket.Ticket.{Ticket}
-use Rattle.sending.specs.declared.Trio.{Trio}
 use Rattle.sending.specs.Plan.{plan-on, plan-next}
 use Rattle.sending.specs.Placed.{first-plan, second-plan}
-use Rattle.sending.specs.Trio.{member, In, trio-view, member-at}
 
 either-view : (same : Bool) (x y : Memory) → memory-view (cond same x y) ≡ cond same (memory-view x) (memory-view y)
 either-view true x y = refl
@@ -30,16 +27,13 @@ module _ (j : parts.Job) (x y : Memory) (a b : ℕ) where
   unfolding second-plan
   second-view k d = ap (λ (m : parts.Memory). plan-next (is-local j a d) (memory-view x) m a b k d) (either-view (eqb d a) x y)
 
--- ---- and from those of a trio
-module _ (s : State) (p : Places) (t : Trio) {l : Layout} (has : s .layout ≡ l) where
-  pub job-at : layout-view l ≡ trio-view s p t .job
-  unfolding trio-view view
-  job-at = ap layout-view (sym has)
+-- ---- and in a state that has these memories
+module _ (s : State) {l : Layout} (has : s .layout ≡ l) (x : parts.Memory) (a b : ℕ) where
+  pub first-at : (y : Memory) → view s .live b ≡ memory-view y → first-plan (layout-view l) x (memory-view y) a b ≡ first-plan (view s .job) x (view s .live b) a b
+  unfolding view
+  first-at y at = rw (← has, ← at)
 
-  module _ (x : parts.Memory) (a b : ℕ) where
-    pub first-at : (y : Memory) → y ≡ member p t b → In p b → first-plan (layout-view l) x (memory-view y) a b ≡ first-plan (trio-view s p t .job) x (trio-view s p t .live b) a b
-    first-at y e i = rw (job-at, e, member-at s p t b i)
-
-    pub second-at : (k : Ticket) (d : ℕ) (z : Memory) → z ≡ member p t d → In p d
-        → second-plan (layout-view l) x (memory-view z) a b k d ≡ second-plan (trio-view s p t .job) x (trio-view s p t .live d) a b k d
-    second-at k d z e i = rw (job-at, e, member-at s p t d i)
+  pub second-at : (k : Ticket) (d : ℕ) (z : Memory) → view s .live d ≡ memory-view z
+      → second-plan (layout-view l) x (memory-view z) a b k d ≡ second-plan (view s .job) x (view s .live d) a b k d
+  unfolding view
+  second-at k d z at = rw (← has, ← at)

@@ -1,5 +1,5 @@
 -- What a send needs to know before it is made: its ticket, and what the questions 7, 8 and 10 say of it.
-use mathlib.Core.Bool.{Bool, true, false, cond, _||_}
+use mathlib.Core.Bool.{Bool, true, false, cond}
 use mathlib.Core.List.{List, [], _∷_}
 use mathlib.Core.Option.{Option, some, none}
 use Prim.Native.Nat.{ℕ, _+_, _<_}
@@ -75,13 +75,10 @@ plan-after s a b k d = plan-next (is-local (s .job) a d) (s .live a) (s .live d)
 unfoldable pub listed : Receivers → List ℕ
 listed r = cond (eqb (r .one) 0) [] (r .one ∷ port (r .two))
 
--- n is at a port of c
-unfoldable pub is-port : Job → ℕ → ℕ → Bool
-is-port j c n = eqb n (j .first c) || eqb n (j .second c)
-
+-- the second counts only after the first
 pub record Listed (j : Job) (c hops : ℕ) (r : Receivers) : Type 0 where
   pub all : listed r ≡ receivers j c hops
   pub one-in : r .one < 13
   pub two-in : r .two < 13
-  pub one-port : (r .one ≡ 0 → ⊥) → is-port j c (r .one) ≡ true
-  pub two-port : (r .two ≡ 0 → ⊥) → is-port j c (r .two) ≡ true
+  pub one-port : (r .one ≡ 0 → ⊥) → (r .one ≡ j .first c → ⊥) → r .one ≡ j .second c
+  pub both-ports : (r .two ≡ 0 → ⊥) → (r .one ≡ j .first c) × (r .two ≡ j .second c)

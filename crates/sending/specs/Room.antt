@@ -1,14 +1,12 @@
--- No table, log or wire is longer than its array; a send adds at most one.
+-- No table or log is longer than its array; a send adds at most one.
 use mathlib.Core.Bool.{Bool, true, false}
-use Prim.Native.Nat.{_≤_, min}
+use Prim.Native.Nat.{_≤_}
 use native.Mathlib.Omega.{arith}
 use lib.ListN.{length, length-take}
 use Rattle.log.specs.declared.Log.{Log}
 use Rattle.log.specs.Log as log
 use Rattle.table.specs.declared.Table.{Table}
 use Rattle.table.specs.Table as table
-use Rattle.wire.specs.declared.Wire.{Wire}
-use Rattle.wire.specs.View.{packets}
 use Rattle.sending.specs.declared.ticket.Ticket.{Ticket}
 use Rattle.sending.specs.declared.ticket.Ticket.the-variants.{Remote, Found, New, TooHigh}
 use Rattle.sending.specs.Ticket.{growth}
@@ -21,10 +19,6 @@ table-top t = simp length-take (omega arith)
 pub log-top : (l : Log) → length (log.entries l) ≤ 16
 unfolding log.entries
 log-top l = simp length-take (omega arith)
-
-pub wire-top : (w : Wire) → length (packets w) ≤ 128
-unfolding packets
-wire-top w = simp length-take (omega arith)
 
 -- ---- what a send adds
 pub growth-top : (k : Ticket) → growth k ≤ 1

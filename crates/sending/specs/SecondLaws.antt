@@ -1,13 +1,13 @@
 -- The plan of a second send, after a first one.
-use mathlib.Core.Path.{_≡_, refl, sym, ap, subst, _∙_}
-use mathlib.Core.Bool.{Bool, true, false, cond}
+use mathlib.Core.Path.{_≡_, refl, ap}
+use mathlib.Core.Bool.{Bool, true, false}
 use mathlib.Core.Logic.{_≢_, inl, inr}
 use mathlib.Core.List.{List, [], _∷_, _++_}
 use mathlib.Core.Option.{Option, some, none}
 use Prim.Native.Nat.{ℕ, _+_}
 use native.Mathlib.Omega.{arith}
 use borrow.Author.Tests.{eq-eqb, ne-eqb}
-use lib.Dec.{eqb, ltb, leb}
+use lib.Dec.{ltb, leb}
 use lib.ListN.{length, length-append}
 use Rattle.lists.specs.Tests.{eq?, either, true-not-false}
 use Rattle.lists.specs.Map.{upd-same, upd-other}
@@ -18,7 +18,6 @@ use Rattle.protocol.specs.Tickets.{entry, next-tn}
 use Rattle.protocol.specs.Sending.{local-entry, is-local, next-message, send}
 use Rattle.sending.specs.declared.ticket.Ticket.{Ticket}
 use Rattle.sending.specs.declared.ticket.Ticket.the-variants.{Remote, Found, New, TooHigh}
-use Rattle.sending.specs.declared.plan.Plan.{Plan}
 use Rattle.sending.specs.Ticket.{fits, is-new, table-after}
 use Rattle.sending.specs.Sent.{sent}
 use Rattle.sending.specs.Entries.{entry-filled, next-filled, length-filled, entry-more}

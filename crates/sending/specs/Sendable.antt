@@ -1,16 +1,16 @@
 -- A send whose questions are answered "yes": there is room for it, and what it does.
 use mathlib.Core.Path.{_≡_, refl, sym, ap, _∙_}
-use mathlib.Core.Bool.{Bool, true, false, not, _&&_, _||_}
-use mathlib.Core.List.{List, [], _∷_}
-use Prim.Native.Nat.{ℕ, _+_, _<_, _≤_}
+use mathlib.Core.Bool.{Bool, true, _&&_}
+use mathlib.Core.List.{[], _∷_}
+use Prim.Native.Nat.{ℕ, _+_, _<_}
 use native.Mathlib.Omega.{arith}
 use borrow.Author.Tests.{leb-true, ltb-true, le-leb}
-use lib.Dec.{ltb, leb}
+use lib.Dec.{leb}
 use lib.ListN.{length}
 use Rattle.lists.specs.Tests.{and-l, and-r, true-not-false}
 use Rattle.protocol.specs.Parts.{State}
 use Rattle.protocol.specs.Sending.{send, send-all, next-message}
-use Rattle.protocol.specs.Questions.{numbers-fit, window-admits, log-has-room, table-has-room, takes-ticket, wire-fits, sn-to-send, put-to-all}
+use Rattle.protocol.specs.Questions.{numbers-fit, log-has-room, table-has-room, wire-fits, sn-to-send, put-to-all}
 use Rattle.sending.specs.declared.ticket.Ticket.{Ticket}
 use Rattle.sending.specs.declared.ticket.Ticket.the-variants.{Remote, Found, New, TooHigh}
 use Rattle.sending.specs.Ticket.{fits, is-new, grows, growth}

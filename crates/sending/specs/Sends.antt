@@ -1,23 +1,21 @@
 -- The questions 7 to 11 for none, one or two sends, by their plans.
-use mathlib.Core.Path.{_≡_, refl, sym, ap, subst, _∙_}
-use mathlib.Core.Bool.{Bool, true, false, cond, _&&_}
+use mathlib.Core.Path.{_≡_, refl, sym, subst, _∙_}
+use mathlib.Core.Bool.{Bool, true, false, _&&_}
 use mathlib.Core.List.{List, [], _∷_}
-use Prim.Native.Nat.{ℕ, suc, _+_, _<_, _≤_}
+use Prim.Native.Nat.{ℕ, _+_}
 use native.Mathlib.Omega.{arith}
-use borrow.Author.Tests.{leb-true, ltb-true, ltb-false, lt-leb, le-leb, lt-ltb, le-ltb}
+use borrow.Author.Tests.{ltb-true, ltb-false, lt-leb, le-leb, lt-ltb}
 use lib.Dec.{ltb, leb}
 use lib.ListN.{length}
-use Rattle.lists.specs.Tests.{either, true-not-false, and-l, and-r}
-use Rattle.lists.specs.Questions.{asks, Yes}
+use Rattle.lists.specs.Tests.{either, and-l, and-r}
+use Rattle.lists.specs.Questions.{asks}
 use Rattle.protocol.specs.declared.Answer.the-variants.{Accepted}
 use Rattle.protocol.specs.Parts.{State}
 use Rattle.protocol.specs.Sending.{send, send-all, next-message}
 use Rattle.protocol.specs.Questions.{numbers-fit, window-admits, log-has-room, table-has-room, wire-fits, put-to-all}
 use Rattle.protocol.specs.Step.{Outcome, judged}
-use Rattle.sending.specs.declared.ticket.Ticket.{Ticket}
 use Rattle.sending.specs.declared.plan.Plan.{Plan}
 use Rattle.sending.specs.Ticket.{fits, growth}
-use Rattle.sending.specs.Sent.{sent}
 use Rattle.sending.specs.Plan.{plan-of, plan-after}
 use Rattle.sending.specs.PlanLaws.{Judges, judges}
 use Rattle.sending.specs.AfterLaws.{log-after, wire-after}
@@ -57,7 +55,7 @@ unfolding verdict
 verdict-guard n p true l m e f = rw (e, f refl)
 verdict-guard n p false l m e f = rw e
 
-and-true : (b : Bool) → (b && true) ≡ b
+pub and-true : (b : Bool) → (b && true) ≡ b
 and-true true = refl
 and-true false = refl
 

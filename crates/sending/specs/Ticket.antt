@@ -1,7 +1,7 @@
 -- How a message to be sent gets its ticket, and what the send changes.
 use mathlib.Core.Bool.{Bool, true, false}
 use mathlib.Core.List.{List, [], _∷_, _++_}
-use Prim.Native.Nat.{ℕ}
+use Prim.Native.Nat.{ℕ, _+_}
 use Rattle.lists.specs.Map.{upd}
 use Rattle.protocol.specs.declared.Message.{Message}
 use Rattle.protocol.specs.declared.Entry.{Entry}
@@ -59,6 +59,10 @@ packets-of m Remote = about m ASK ∷ []
 packets-of m (Found t) = []
 packets-of m (New t) = about m (NOTE t) ∷ []
 packets-of m TooHigh = []
+
+-- the message after the SN n
+abbrev pub message-after : ℕ → ℕ → ℕ → ℕ → ℕ → Message
+message-after a b n v h = record { sender = a; receiver = b; sn = n + 1; value = v; hops = h }
 
 -- the sender's memory with the message in its log
 unfoldable pub logged : Memory → Message → ℕ → Memory

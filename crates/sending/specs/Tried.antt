@@ -20,13 +20,13 @@ use Rattle.sending.specs.Verdict.{verdict, judged-no, judged-yes}
 
 -- ---- what the verdict n says
 module _ (s w : parts.State) (a : ℕ) (l : List ℕ) (v h n : ℕ) (said : verdict 7 (sends-questions w a l v h) ≡ n) where
-  pub sends-refused : (n ≡ 0 → ⊥) → record { state = s; answer = Refused n } ≡ tried-sends s w a l v h
+  pub sends-refused : (n ≡ 0 → ⊥) → tried-sends s w a l v h ≡ record { state = s; answer = Refused n }
   unfolding tried-sends
-  sends-refused f = sym (judged-no s 7 (sends-questions w a l v h) _ (λ e. f (sym said ∙ e)) ∙ rw said)
+  sends-refused f = judged-no s 7 (sends-questions w a l v h) _ (λ e. f (sym said ∙ e)) ∙ rw said
 
-  pub sends-made : n ≡ 0 → (t : parts.State) → t ≡ send-all w a l v h → record { state = t; answer = Accepted } ≡ tried-sends s w a l v h
+  pub sends-made : n ≡ 0 → tried-sends s w a l v h ≡ record { state = send-all w a l v h; answer = Accepted }
   unfolding tried-sends
-  sends-made e t f = rw f (sym (judged-yes s 6 (sends-questions w a l v h) _ (said ∙ e)))
+  sends-made e = judged-yes s 6 (sends-questions w a l v h) _ (said ∙ e)
 
 -- ---- the plan p of a send, with the lengths of the sender's log and of the wire
 module _ (s : parts.State) (x : parts.Memory) (a b v h : ℕ) (p : Plan) (p-is : p ≡ first-plan (s .job) x (s .live b) a b) where
@@ -63,7 +63,3 @@ module _ (s : parts.State) (x : parts.Memory) (a b v h : ℕ) (p : Plan) (p-is :
 
       pub second-ready : Sendable (send (with-memory s a x) a b v h) a d v h (q .ticket)
       second-ready = subst (λ (k : Ticket). Sendable (send (with-memory s a x) a b v h) a d v h k) (cc (p-of, q-after p-fits)) (second-sendable (with-memory s a x) a b v h d e)
-
--- ---- a send in a state that is w
-pub sent-in : {t w u : parts.State} {a b v h : ℕ} {k : Ticket} → t ≡ w → (Sendable t a b v h k → u ≡ send t a b v h) → Sendable w a b v h k → u ≡ send w a b v h
-sent-in {t} {w} {u} {a} {b} {v} {h} {k} e f = subst (λ (y : parts.State). Sendable y a b v h k → u ≡ send y a b v h) e f

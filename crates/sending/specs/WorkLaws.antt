@@ -34,32 +34,31 @@ module _ (r : Receivers) where
   listed-two f g = rw (ne-eqb (r .one) 0 f, ne-eqb (r .two) 0 g)
 
 module _ (s : State) (c : ℕ) (e : Entry) (n : ℕ) (n-is : n ≡ verdict 6 (own-questions (s .live c) e)) where
-  pub entry-refused : (n ≡ 0 → ⊥) → record { state = s; answer = Refused n } ≡ tried-work s c (some e)
-  entry-refused f = sym (own-refused s c e (λ z. f (n-is ∙ z)) ∙ rw n-is)
+  pub entry-refused : (n ≡ 0 → ⊥) → tried-work s c (some e) ≡ record { state = s; answer = Refused n }
+  entry-refused f = own-refused s c e (λ z. f (n-is ∙ z)) ∙ rw n-is
 
   module _ (none : n ≡ 0) (x : Memory) (x-is : x ≡ work-entry (s .live c) e) where
     pub entry-sends : (l : List ℕ) → l ≡ receivers (s .job) c (e .hops) → (h : ℕ) → h ≡ e .hops - 1
-        → tried-sends s (with-memory s c x) c l (x .state % 65536) h ≡ tried-work s c (some e)
+        → tried-work s c (some e) ≡ tried-sends s (with-memory s c x) c l (x .state % 65536) h
     unfolding worked-only receivers-of value-out sent-value work-entry hops-out
     entry-sends l l-is h h-is =
-        sym (own-passed s c e (sym n-is ∙ none)
-        ∙ cc (ap (λ (m : Memory). m .state % 65536) x-is, ap (with-memory s c) x-is))
+        own-passed s c e (sym n-is ∙ none)
+        ∙ cc (ap (λ (m : Memory). m .state % 65536) x-is, ap (with-memory s c) x-is)
 
-    pub entry-done : [] ≡ receivers (s .job) c (e .hops) → length (s .wire) ≤ 128 → (t : State) → t ≡ with-memory s c x
-        → record { state = t; answer = Accepted } ≡ tried-work s c (some e)
-    entry-done l-is top t t-is =
-        rw t-is (sym (none-sent s (with-memory s c x) c (x .state % 65536) (e .hops - 1) top))
-        ∙ entry-sends [] l-is (e .hops - 1) refl
+    pub entry-done : [] ≡ receivers (s .job) c (e .hops) → length (s .wire) ≤ 128 → tried-work s c (some e) ≡ record { state = with-memory s c x; answer = Accepted }
+    entry-done l-is top =
+        entry-sends [] l-is (e .hops - 1) refl
+        ∙ none-sent s (with-memory s c x) c (x .state % 65536) (e .hops - 1) top
 
 -- ---- before them the questions on the chare, by an answer n
 module _ (s : State) (c n : ℕ) (n-is : n ≡ verdict 2 (chare-questions s c)) where
-  pub chare-refused : (n ≡ 0 → ⊥) → record { state = s; answer = Refused n } ≡ tried s (work-questions s c) (worked-state s c (next-entry (s .live c)))
-  chare-refused f = sym (work-refused s c (λ z. f (n-is ∙ z)) _ ∙ rw n-is)
+  pub chare-refused : (n ≡ 0 → ⊥) → tried s (work-questions s c) (worked-state s c (next-entry (s .live c))) ≡ record { state = s; answer = Refused n }
+  chare-refused f = work-refused s c (λ z. f (n-is ∙ z)) _ ∙ rw n-is
 
   pub chare-there : n ≡ 0 → is-chare s c ≡ true
   unfolding chare-questions
   chare-there z = all-yes 1 (chare-questions s c) (sym n-is ∙ z) .1 .0
 
   pub chare-passed : n ≡ 0 → (o : Option Entry) → o ≡ next-entry (s .live c)
-      → tried-work s c o ≡ tried s (work-questions s c) (worked-state s c (next-entry (s .live c)))
-  chare-passed z o o-is = rw o-is (sym (work-tried s c (sym n-is ∙ z)))
+      → tried s (work-questions s c) (worked-state s c (next-entry (s .live c))) ≡ tried-work s c o
+  chare-passed z o o-is = rw o-is (work-tried s c (sym n-is ∙ z))

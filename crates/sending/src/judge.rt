@@ -4,17 +4,16 @@ ghost use Rattle.protocol.specs.Parts.{is-down};
 ghost use Rattle.state.specs.View.{view};
 ghost use Rattle.sending.specs.Works.{chare-questions};
 ghost use Rattle.sending.specs.Verdict.{verdict};
-ghost use Rattle.sending.specs.ByParts.{JudgesInject};
+ghost use Rattle.sending.specs.InjectBy.{JudgesInject};
 use layout::Layout;
 use protocol::Status;
 use state::Machine;
 use state::Memory;
 use state::State;
-use wire::Wire;
 
-// The number of the question that refuses an inject, or 0.
-pub(crate) fn judge_inject(l: Layout, lost: bool, desk: Memory, w: Wire, chare: u8, hops: u8) -> u8
-    ensures { λ r. ⌜ JudgesInject l lost desk w chare hops r ⌝ }
+// The number of the question that refuses an inject, or 0, by the parts of the state: the desk's memory and the wire's count.
+pub fn judge_inject(l: Layout, lost: bool, desk: Memory, len: u8, chare: u8, hops: u8) -> u8
+    ensures { λ r. ⌜ JudgesInject l lost desk len chare hops r ⌝ }
 {
     if !l.set {
         return 2;
@@ -36,7 +35,7 @@ pub(crate) fn judge_inject(l: Layout, lost: bool, desk: Memory, w: Wire, chare: 
     if 16 <= log::count(g) {
         return 9;
     }
-    if 128 <= wire::count(w) {
+    if 128 <= wire::held(len) {
         return 11;
     }
     0

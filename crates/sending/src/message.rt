@@ -1,26 +1,52 @@
-// What a message that is sent leaves of the sender's log and the wire.
+// A sender's next message, and what it leaves of the sender's log and the wire.
 ghost use mathlib.Core.Path.{_≡_};
 ghost use mathlib.Core.Bool.{true};
 ghost use mathlib.Core.List.{_++_};
 ghost use Prim.Native.Nat.{_<_};
 ghost use lib.ListN.{length};
 ghost use Rattle.protocol.specs.Sending.{about};
-ghost use Rattle.wire.specs.View.{packets};
+ghost use Rattle.wire.specs.View.{waiting};
 ghost use Rattle.state.specs.View.{memory-view};
-ghost use Rattle.sending.specs.Ticket.{grows, packets-of, logged};
+ghost use Rattle.sending.specs.Ticket.{grows, packets-of, message-after, logged};
 use crate::ticket::Ticket;
 use protocol::Content;
 use protocol::Logged;
 use protocol::Message;
 use protocol::Packet;
 use state::Memory;
-use wire::Wire;
+
+// The message after the SN `last`. None passes 60,000.
+pub(crate) fn message_after(sender: u8, receiver: u8, last: u16, value: u16, hops: u8) -> Message
+    ensures { λ r. ⌜ (last < 60000 → r ≡ message-after sender receiver last value hops) ⌝ }
+{
+    let sn = if last < 60000 { last + 1 } else { last };
+    Message {
+        sender,
+        receiver,
+        sn,
+        value,
+        hops,
+    }
+}
+
+// The next message of a sender with the memory x.
+pub fn next_message(x: Memory, sender: u8, receiver: u8, value: u16, hops: u8) -> Message
+    ensures { λ r. ⌜ (receiver < 13 → memory-view x .sn receiver < 60000 → r ≡ message-after sender receiver (memory-view x .sn receiver) value hops) ⌝ }
+{
+    if 12 < receiver {
+        return message_after(sender, receiver, 0, value, hops);
+    }
+    let b = receiver as usize;
+    message_after(sender, receiver, x.sn[b], value, hops)
+}
 
 // The sender's memory.
-pub(crate) fn log_message(x: Memory, m: Message, tn: u16) -> Memory
-    requires { ⌜ m .receiver < 13 ⌝ }
-    ensures { λ r. ⌜ (length (memory-view x .log) < 16 → memory-view r ≡ logged (memory-view x) m tn) ⌝ }
+pub fn log_message(x: Memory, m: Message, tn: u16) -> Memory
+    ensures { λ r. ⌜ (m .receiver < 13 → length (memory-view x .log) < 16 → memory-view r ≡ logged (memory-view x) m tn) ⌝ }
 {
+    if 12 < m.receiver {
+        return x;
+    }
     let b = m.receiver as usize;
     let l = x.log;
     let y = Logged { message: m, tn };
@@ -42,14 +68,14 @@ fn about(m: Message, content: Content) -> Packet
     }
 }
 
-// The wire.
-pub(crate) fn put(w: Wire, m: Message, k: Ticket) -> Wire
-    ensures { λ r. ⌜ ((grows k ≡ true → length (packets w) < 128) → packets r ≡ packets w ++ packets-of m k) ⌝ }
+// Puts what a send gives on the wire. How many packets there are then.
+pub fn put(words: &mut [u64; 128], len: u8, m: Message, k: Ticket) -> u8
+    ensures { λ r. ⌜ ((grows k ≡ true → length (waiting (now (words .entry)) len) < 128) → waiting (now (words .exit)) r ≡ waiting (now (words .entry)) len ++ packets-of m k) ⌝ }
 {
     match k {
-        Ticket::Remote => wire::push(w, about(m, Content::Ask)),
-        Ticket::Found(_) => w,
-        Ticket::New(n) => wire::push(w, about(m, Content::Note(n))),
-        Ticket::TooHigh => w,
+        Ticket::Remote => wire::join(words, len, about(m, Content::Ask)),
+        Ticket::Found(_) => len,
+        Ticket::New(n) => wire::join(words, len, about(m, Content::Note(n))),
+        Ticket::TooHigh => len,
     }
 }

@@ -68,7 +68,7 @@ fn plan_for(near: bool, y: Memory, a: u8, last: u16, base: u16, extra: u8) -> Pl
 }
 
 // A second message, after a first one to the same receiver or to another: the last SN.
-fn last_after(same: bool, n: u16, m: u16) -> u16
+pub(crate) fn last_after(same: bool, n: u16, m: u16) -> u16
     ensures { λ r. ⌜ (n < 60000 → r ≡ last-after same n m) ⌝ }
 {
     if !same {

@@ -43,7 +43,7 @@ pub(crate) fn growth(k: Ticket) -> u8
     }
 }
 
-pub(crate) fn tn_of(k: Ticket) -> u16
+pub fn tn_of(k: Ticket) -> u16
     ensures { λ r. ⌜ r ≡ tn-of k ⌝ }
 {
     match k {
@@ -77,7 +77,7 @@ fn table_after(t: Table, m: Message, k: Ticket) -> Table
 }
 
 // The receiver's memory.
-pub(crate) fn take_ticket(y: Memory, m: Message, k: Ticket) -> Memory
+pub fn take_ticket(y: Memory, m: Message, k: Ticket) -> Memory
     ensures { λ r. ⌜ ((is-new k ≡ true → length (memory-view y .table) < 16) → memory-view r ≡ with-table (memory-view y) (table-after (memory-view y .table) m k)) ⌝ }
 {
     let t = y.table;

@@ -1,4 +1,4 @@
-use Rattle.sending.specs.ByParts.{places-of}
+use Rattle.sending.specs.Places.{places-of}
 use borrow.Author.Needs.{needs}
 use Rattle.sending.proofs.places_of.Statement.{statement}
 use Rattle.sending.proofs.places_of.Tie as tie

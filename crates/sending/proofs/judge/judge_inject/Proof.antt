@@ -1,7 +1,7 @@
 -- `judge_inject` puts the questions one after the other.
 use mathlib.Core.Path.{_≡_, sym, _∙_}
 use mathlib.Core.Bool.{true}
-use Prim.Native.Nat.{_+_}
+use Prim.Native.Nat.{_+_, min}
 use native.Mathlib.Omega.{arith}
 use borrow.Author.Needs.{needs}
 use borrow.Author.Tests.{le-leb, lt-leb, lt-ltb, le-ltb}
@@ -9,7 +9,6 @@ use lib.ListN.{length}
 use Rattle.arrays.specs.ArrayMap.{as-map}
 use Rattle.protocol.specs.Frames.{between}
 use Rattle.layout.specs.View.{layout-view}
-use Rattle.wire.specs.View.{packets}
 use Rattle.state.specs.View.{memory-view}
 use Rattle.sending.specs.Store.{chare-index}
 use Rattle.sending.specs.Verdict.{verdict, was-false, was-true}
@@ -52,7 +51,7 @@ returns-4 c =
     judges _ _ _ _ _ _ _ (rw (set-known (c .before .before), chare-known (c .before .before), le-leb (a .hops) 7 (c .before .if3 .left), c .if4 .taken))
 
 -- 2 to 4 passed
-passed : (c : tie.Else4) → let a = c .before .before .before .before .before .before .args in verdict 7 (room-by (a .t3) (a .w) (a .chare)) ≡ verdict 2 (asked-by (a .l) (a .lost) (a .t3) (a .w) (a .chare) (a .hops))
+passed : (c : tie.Else4) → let a = c .before .before .before .before .before .before .args in verdict 7 (room-by (a .t3) (a .len) (a .chare)) ≡ verdict 2 (asked-by (a .l) (a .lost) (a .t3) (a .len) (a .chare) (a .hops))
 unfolding verdict asked-by
 passed c =
     let a = c .before .before .before .before .before .before .args in
@@ -83,22 +82,22 @@ returns-6 c =
     let x = memory-view (a .t3) in
     judges _ _ _ _ _ _ _ (rw (← passed (c .before .before .before .before .before), le-leb (x .sn (a .chare) + 1) 60000 (omega (arith, c .before .before .before .if5 .left)), le-ltb (length (x .log)) 16 (omega (arith, c .before .count .ensures, c .if6 .taken))))
 
-count-requires-2 : tie.Need-count-requires-2
-count-requires-2 c κs = search needs
+held-requires : tie.Need-held-requires
+held-requires c κs = search needs
 
 returns-7 : tie.Need-returns-7
 unfolding verdict room-by memory-view as-map
 returns-7 c =
     let a = c .before .before .before .before .before .before .before .before .before .before .before .before .before .args in
     let x = memory-view (a .t3) in
-    judges _ _ _ _ _ _ _ (rw (← passed (c .before .before .before .before .before .before .before), le-leb (x .sn (a .chare) + 1) 60000 (omega (arith, c .before .before .before .before .before .if5 .left)), lt-ltb (length (x .log)) 16 (omega (arith, c .before .before .before .count .ensures, c .before .before .if6 .left)), lt-leb (length (packets (a .w)) + 1) 128 (omega (arith, c .before .count2 .ensures, c .if7 .taken))))
+    judges _ _ _ _ _ _ _ (rw (← passed (c .before .before .before .before .before .before .before), le-leb (x .sn (a .chare) + 1) 60000 (omega (arith, c .before .before .before .before .before .if5 .left)), lt-ltb (length (x .log)) 16 (omega (arith, c .before .before .before .count .ensures, c .before .before .if6 .left)), lt-leb (min (a .len) 128 + 1) 128 (omega (arith, c .before .held .ensures, c .if7 .taken))))
 
 returns-8 : tie.Need-returns-8
 unfolding verdict room-by memory-view as-map
 returns-8 c =
     let a = c .before .before .before .before .before .before .before .before .before .before .before .before .before .args in
     let x = memory-view (a .t3) in
-    judges _ _ _ _ _ _ _ (rw (← passed (c .before .before .before .before .before .before .before), le-leb (x .sn (a .chare) + 1) 60000 (omega (arith, c .before .before .before .before .before .if5 .left)), lt-ltb (length (x .log)) 16 (omega (arith, c .before .before .before .count .ensures, c .before .before .if6 .left)), le-leb (length (packets (a .w)) + 1) 128 (omega (arith, c .before .count2 .ensures, c .if7 .left))))
+    judges _ _ _ _ _ _ _ (rw (← passed (c .before .before .before .before .before .before .before), le-leb (x .sn (a .chare) + 1) 60000 (omega (arith, c .before .before .before .before .before .if5 .left)), lt-ltb (length (x .log)) 16 (omega (arith, c .before .before .before .count .ensures, c .before .before .if6 .left)), le-leb (min (a .len) 128 + 1) 128 (omega (arith, c .before .held .ensures, c .if7 .left))))
 
 pub judge-inject-spec : {M : Type 1} → statement M
 judge-inject-spec =
@@ -114,6 +113,6 @@ judge-inject-spec =
     returns-5
     count-requires
     returns-6
-    count-requires-2
+    held-requires
     returns-7
     returns-8)

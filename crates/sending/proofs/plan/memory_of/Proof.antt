@@ -1,4 +1,3 @@
-use borrow.Author.Needs.{needs}
 use Rattle.sending.proofs.plan.memory_of.Statement.{statement}
 use Rattle.sending.proofs.plan.memory_of.Tie as tie
 

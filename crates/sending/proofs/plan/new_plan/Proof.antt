@@ -6,7 +6,6 @@ use Rattle.table.specs.Table.{entries}
 use Rattle.protocol.specs.Tickets.{next-tn}
 use borrow.Author.Tests.{le-leb, lt-leb}
 use native.Mathlib.Omega.{arith}
-use mathlib.Core.Path.{_∙_, sym}
 use borrow.Author.Needs.{needs}
 use Rattle.sending.proofs.plan.new_plan.Statement.{statement}
 use Rattle.sending.proofs.plan.new_plan.Tie as tie

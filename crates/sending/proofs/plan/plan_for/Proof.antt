@@ -2,9 +2,7 @@ use Rattle.sending.specs.Verdict.{was-false, was-true}
 use Rattle.sending.specs.Plan.{plan-for, local-plan}
 use Rattle.state.specs.View.{memory-view}
 use Rattle.table.specs.Table.{found-entry}
-use Rattle.protocol.specs.Tickets.{entry}
 use borrow.Author.Tests.{lt-ltb, le-ltb}
-use mathlib.Core.Path.{_∙_, sym, ap}
 use borrow.Author.Needs.{needs}
 use Rattle.sending.proofs.plan.plan_for.Statement.{statement}
 use Rattle.sending.proofs.plan.plan_for.Tie as tie

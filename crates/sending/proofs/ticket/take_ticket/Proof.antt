@@ -1,5 +1,5 @@
 use Rattle.protocol.specs.Parts.{with-table}
-use mathlib.Core.Path.{sym, ap, _∙_}
+use mathlib.Core.Path.{ap}
 use Rattle.state.specs.View.{memory-view}
 use borrow.Author.Needs.{needs}
 use Rattle.sending.proofs.ticket.take_ticket.Statement.{statement}

@@ -1,6 +1,5 @@
 use Rattle.sending.specs.Verdict.{verdict, was-false, was-true}
 use borrow.Author.Tests.{le-leb, lt-leb}
-use borrow.Author.Needs.{needs}
 use Rattle.sending.proofs.verdict.answer.Statement.{statement}
 use Rattle.sending.proofs.verdict.answer.Tie as tie
 
