@@ -8,6 +8,5 @@ pub mod Arrival
 pub mod Frame
 pub mod FrameLaws
 pub mod Judged
-pub mod Handled
 pub mod Named
-pub mod Delivered
+pub mod InPlace

@@ -1,10 +1,11 @@
 -- The packet found has the frame's name, so its place is the frame's; and once it has left, the wire has room for an answer.
 use mathlib.Core.Path.{_≡_}
 use mathlib.Core.Bool.{Bool, true, cond}
+use mathlib.Core.List.{List}
 use mathlib.Core.Option.{some}
-use Prim.Native.Nat.{ℕ, _≤_, _<_, min}
+use Prim.Native.Nat.{ℕ, _≤_, _<_}
 use native.Mathlib.Omega.{arith}
-use borrow.Author.Tests.{eqb-true, ltb-true, leb-true, lt-ltb}
+use borrow.Author.Tests.{eqb-true, leb-true, lt-ltb}
 use lib.Dec.{eqb, ltb, leb}
 use lib.ListN.{length, length-take}
 use Rattle.lists.specs.Tests.{and-r, and4, split}
@@ -16,13 +17,11 @@ use Rattle.protocol.specs.Packets.{kind, is-named}
 use Rattle.layout.specs.declared.Layout.{Layout}
 use Rattle.layout.specs.View.{layout-view}
 use Rattle.layout.specs.ViewLaws.{home-top}
-use Rattle.wire.specs.declared.Wire.{Wire}
-use Rattle.wire.specs.View.{packets}
+use Rattle.wire.specs.View.{waiting}
 use Rattle.delivery.specs.More.{remove1-length}
 use Rattle.delivery.specs.Effect.{place-of}
-use Rattle.delivery.specs.Frame.{in-range}
+use Rattle.delivery.specs.Frame.{in-range, place-index}
 use Rattle.state.specs.Number.{number, number-top}
-use Rattle.delivery.specs.Handled.{place-index}
 
 -- an index for any numbers
 pub place-top : (k a r : ℕ) → place-index k a r < 13
@@ -47,9 +46,9 @@ module _ (k a r n : ℕ) (p : Packet) (named : is-named k a r n p ≡ true) wher
       rw (eqb-true (kind (p .content)) k (g .0), eqb-true (p .sender) a (g .1), eqb-true (p .receiver) r (g .2))
       (split (λ b. cond (ltb (cond b a r) 13) (cond b a r) 0 ≡ cond b a r) (eqb k 2) (λ _. rw (lt-ltb a 13 x)) (λ _. rw (lt-ltb r 13 y)))
 
-pub packet-room : (w : Wire) (q : Packet → Bool) {p : Packet} → find q (packets w) ≡ some p → length (remove1 q (packets w)) < 128
-unfolding packets
-packet-room w q e = omega (arith, remove1-length q (packets w) e, length-take (min (w .len) 128) (w .items))
+pub packet-room : (words : List ℕ) (len : ℕ) (q : Packet → Bool) {p : Packet} → find q (waiting words len) ≡ some p → length (remove1 q (waiting words len)) < 128
+unfolding waiting
+packet-room words len q e = let h : length (waiting words len) ≤ 128 = simp length-take (omega arith) in omega (arith, remove1-length q (waiting words len) e)
 
 pub home-small : (l : Layout) (c : ℕ) {h : ℕ} → h ≡ layout-view l .home c → h < 7
 home-small l c e = omega (arith, home-top l c)

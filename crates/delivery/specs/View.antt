@@ -1,23 +1,17 @@
 -- What the answers of this crate's functions mean.
 use mathlib.Core.List.{List}
 use mathlib.Core.Option.{Option, some, none}
-use Prim.Native.Nat.{ℕ}
 use Rattle.lists.specs.Questions.{Result}
 use Rattle.arrays.specs.Front.{push}
-use Rattle.protocol.specs.declared.Answer.the-variants.{Refused}
 use Rattle.protocol.specs.declared.Content.{Content}
 use Rattle.protocol.specs.declared.Note.{Note}
 use Rattle.protocol.specs.declared.Packet.{Packet}
-use Rattle.notes.specs.declared.Notes.{Notes}
 use Rattle.notes.specs.View.{noted}
-use Rattle.wire.specs.declared.Wire.{Wire}
-use Rattle.state.specs.declared.Memory.{Memory}
 use Rattle.state.specs.View.{memory-view}
 use Rattle.delivery.specs.declared.chare.Reply.{Reply}
 use Rattle.delivery.specs.declared.chare.Reply.the-variants.{Nothing, Send}
 use Rattle.delivery.specs.declared.chare.Arrived.{Arrived}
 use Rattle.delivery.specs.declared.NoteArrived.{NoteArrived}
-use Rattle.delivery.specs.declared.Handled.{Handled}
 use Rattle.delivery.specs.More.{by-number}
 use Rattle.delivery.specs.Effect.{Effect}
 
@@ -35,7 +29,3 @@ note-arrived r = by-number (r .refusal) (noted (r .notes))
 unfoldable pub answered : List Packet → Packet → Reply → List Packet
 answered l p Nothing = l
 answered l p (Send c) = push 128 l (record { sender = p .sender; receiver = p .receiver; sn = p .sn; content = c })
-
--- a refused delivery leaves the parts as they were
-abbrev pub refused : ℕ → Memory → Notes → Wire → Handled
-refused n m l w = record { answer = Refused n; memory = m; notes = l; wire = w }

@@ -1,23 +1,17 @@
 // What a packet does to the memory of the chare that it goes to. A part answers with a refusal of 0, or changes nothing.
 ghost use mathlib.Core.Path.{_≡_};
 ghost use Rattle.lists.specs.Questions.{ok, asks};
-ghost use Rattle.protocol.specs.Parts.{with-table, with-log};
 ghost use Rattle.protocol.specs.Packets.{is-worked};
 ghost use Rattle.protocol.specs.Tickets.{entry};
-ghost use Rattle.window.specs.Bits.{bits};
-ghost use Rattle.log.specs.Log as logs;
-ghost use Rattle.table.specs.Table as tables;
 ghost use Rattle.state.specs.View.{memory-view};
-ghost use Rattle.delivery.specs.Effect.{quiet, answering, grant-of, ask-effect, ask-questions, new-ticket, new-ticket-questions, grant-old-effect, grant-received-effect, grant-new-effect, data-effect, ack-effect, effect, effect-questions};
+ghost use Rattle.delivery.specs.Effect.{quiet, answering, grant-of, ask-effect, ask-questions, grant-old-effect, grant-received-effect, grant-new-effect, data-effect, ack-effect, effect, effect-questions};
 ghost use Rattle.delivery.specs.View.{arrived};
-use log::Log;
 use protocol::Content;
 use protocol::Entry;
 use protocol::Lookup;
 use protocol::Packet;
 use state::Memory;
 use table::FoundEntry;
-use table::Table;
 
 // What goes back under the packet's own name.
 pub enum Reply {
@@ -52,48 +46,6 @@ fn answering(m: Memory, c: Content) -> Arrived
     }
 }
 
-fn with_table(m: Memory, t: Table) -> Memory
-    ensures { λ r. ⌜ memory-view r ≡ with-table (memory-view m) (tables.entries t) ⌝ }
-{
-    let mut r = m;
-    r.table = t;
-    r
-}
-
-fn with_log(m: Memory, l: Log) -> Memory
-    ensures { λ r. ⌜ memory-view r ≡ with-log (memory-view m) (logs.entries l) ⌝ }
-{
-    let mut r = m;
-    r.log = l;
-    r
-}
-
-fn mark_of(m: Memory, sender: u8) -> u16
-    ensures { λ r. ⌜ r ≡ memory-view m .mark sender ⌝ }
-{
-    let i = sender as usize;
-    if i < 13 {
-        return m.mark[i];
-    }
-    0
-}
-
-fn window_of(m: Memory, sender: u8) -> u64
-    ensures { λ r. ⌜ bits r ≡ memory-view m .window sender ⌝ }
-{
-    let i = sender as usize;
-    if i < 13 {
-        return m.window[i];
-    }
-    0
-}
-
-fn is_worked(m: Memory, sender: u8, sn: u16) -> bool
-    ensures { λ r. ⌜ r ≡ is-worked (memory-view m) sender sn ⌝ }
-{
-    window::worked(mark_of(m, sender), window_of(m, sender), sn)
-}
-
 // The GRANT of an entry found: received or new, as marked.
 fn grant_of(e: Entry) -> Content
     ensures { λ r. ⌜ r ≡ grant-of e ⌝ }
@@ -104,12 +56,25 @@ fn grant_of(e: Entry) -> Content
     Content::GrantNew(e.tn)
 }
 
-// A new ticket, not received and noted from the start.
-fn new_ticket(m: Memory, sender: u8, sn: u16) -> Arrived
-    ensures { λ r. ⌜ arrived r ≡ asks 7 (new-ticket-questions (memory-view m) sender sn) (new-ticket (memory-view m) sender sn) ⌝ }
+// ASK: an entry found, or the SN worked, or a new ticket, not received and noted from the start.
+fn ask(mut m: Memory, sender: u8, sn: u16) -> Arrived
+    ensures { λ r. ⌜ arrived r ≡ asks 7 (ask-questions (memory-view m) sender sn (entry (memory-view m .table) sender sn) (is-worked (memory-view m) sender sn)) (ask-effect (memory-view m) sender sn (entry (memory-view m .table) sender sn) (is-worked (memory-view m) sender sn)) ⌝ }
 {
-    let t = m.table;
-    let tn = table::next_tn(t, m.height, m.top);
+    let f = table::find(m.table, sender, sn);
+    if let FoundEntry::At(e) = f {
+        return answering(m, grant_of(e));
+    }
+    let i = sender as usize;
+    let mut mark = 0u16;
+    let mut window = 0u64;
+    if i < 13 {
+        mark = m.mark[i];
+        window = m.window[i];
+    }
+    if window::worked(mark, window, sn) {
+        return answering(m, Content::GrantOld);
+    }
+    let tn = table::next_tn(m.table, m.height, m.top);
     if 60000 < tn {
         return Arrived {
             refusal: 7,
@@ -117,14 +82,14 @@ fn new_ticket(m: Memory, sender: u8, sn: u16) -> Arrived
             reply: Reply::Nothing,
         };
     }
-    if !window::admitted(mark_of(m, sender), sn) {
+    if !window::admitted(mark, sn) {
         return Arrived {
             refusal: 8,
             memory: m,
             reply: Reply::Nothing,
         };
     }
-    if 16 <= table::count(t) {
+    if 16 <= table::count(m.table) {
         return Arrived {
             refusal: 10,
             memory: m,
@@ -141,84 +106,70 @@ fn new_ticket(m: Memory, sender: u8, sn: u16) -> Arrived
         value: 0,
         hops: 0,
     };
-    answering(with_table(m, table::push(t, e)), Content::GrantNew(n))
-}
-
-// ASK: an entry found, or the SN worked, or a new ticket.
-fn ask(m: Memory, sender: u8, sn: u16) -> Arrived
-    ensures { λ r. ⌜ arrived r ≡ asks 7 (ask-questions (memory-view m) sender sn (entry (memory-view m .table) sender sn) (is-worked (memory-view m) sender sn)) (ask-effect (memory-view m) sender sn (entry (memory-view m .table) sender sn) (is-worked (memory-view m) sender sn)) ⌝ }
-{
-    let t = m.table;
-    let FoundEntry::At(e) = table::find(t, sender, sn) else {
-        if is_worked(m, sender, sn) {
-            return answering(m, Content::GrantOld);
-        }
-        return new_ticket(m, sender, sn);
-    };
-    answering(m, grant_of(e))
+    m.table = table::push(m.table, e);
+    answering(m, Content::GrantNew(n))
 }
 
 // GRANT old: the message goes.
-fn grant_old(m: Memory, receiver: u8, sn: u16) -> Arrived
+fn grant_old(mut m: Memory, receiver: u8, sn: u16) -> Arrived
     ensures { λ r. ⌜ arrived r ≡ ok (grant-old-effect (memory-view m) receiver sn) ⌝ }
 {
-    let l = m.log;
-    let Lookup::Unticketed(_) = log::lookup(l, receiver, sn) else {
+    let Lookup::Unticketed(_) = log::lookup(m.log, receiver, sn) else {
         return quiet(m);
     };
-    quiet(with_log(m, log::remove(l, receiver, sn)))
+    m.log = log::remove(m.log, receiver, sn);
+    quiet(m)
 }
 
 // GRANT received: the message gets its TN.
-fn grant_received(m: Memory, receiver: u8, sn: u16, tn: u16) -> Arrived
+fn grant_received(mut m: Memory, receiver: u8, sn: u16, tn: u16) -> Arrived
     ensures { λ r. ⌜ arrived r ≡ ok (grant-received-effect (memory-view m) receiver sn tn) ⌝ }
 {
-    let l = m.log;
-    let Lookup::Unticketed(_) = log::lookup(l, receiver, sn) else {
+    let Lookup::Unticketed(_) = log::lookup(m.log, receiver, sn) else {
         return quiet(m);
     };
-    quiet(with_log(m, log::set_ticket(l, receiver, sn, tn)))
+    m.log = log::set_ticket(m.log, receiver, sn, tn);
+    quiet(m)
 }
 
 // GRANT new: the message gets its TN and is sent as DATA.
-fn grant_new(m: Memory, receiver: u8, sn: u16, tn: u16) -> Arrived
+fn grant_new(mut m: Memory, receiver: u8, sn: u16, tn: u16) -> Arrived
     ensures { λ r. ⌜ arrived r ≡ ok (grant-new-effect (memory-view m) receiver sn tn) ⌝ }
 {
-    let l = m.log;
-    let Lookup::Unticketed(x) = log::lookup(l, receiver, sn) else {
+    let Lookup::Unticketed(x) = log::lookup(m.log, receiver, sn) else {
         return quiet(m);
     };
+    m.log = log::set_ticket(m.log, receiver, sn, tn);
     let c = Content::Data {
         value: x.value,
         hops: x.hops,
     };
-    answering(with_log(m, log::set_ticket(l, receiver, sn, tn)), c)
+    answering(m, c)
 }
 
 // DATA fills an unreceived entry.
-fn data_in(m: Memory, sender: u8, sn: u16, value: u16, hops: u8) -> Arrived
+fn data_in(mut m: Memory, sender: u8, sn: u16, value: u16, hops: u8) -> Arrived
     ensures { λ r. ⌜ arrived r ≡ ok (data-effect (memory-view m) sender sn value hops (entry (memory-view m .table) sender sn)) ⌝ }
 {
-    let t = m.table;
-    let FoundEntry::At(e) = table::find(t, sender, sn) else {
-        return quiet(m);
-    };
-    if e.received {
-        return quiet(m);
+    let f = table::find(m.table, sender, sn);
+    if let FoundEntry::At(e) = f {
+        if !e.received {
+            m.table = table::fill(m.table, sender, sn, value, hops);
+        }
     }
-    quiet(with_table(m, table::fill(t, sender, sn, value, hops)))
+    quiet(m)
 }
 
 // ACK marks the entry noted.
-fn ack(m: Memory, sender: u8, sn: u16) -> Arrived
+fn ack(mut m: Memory, sender: u8, sn: u16) -> Arrived
     ensures { λ r. ⌜ arrived r ≡ ok (ack-effect (memory-view m) sender sn) ⌝ }
 {
-    let t = m.table;
-    quiet(with_table(m, table::note(t, sender, sn)))
+    m.table = table::note(m.table, sender, sn);
+    quiet(m)
 }
 
 // What a packet does to the memory of the chare that it goes to. A NOTE goes to a note list, and leaves the memory.
-pub(crate) fn arrive(m: Memory, p: Packet) -> Arrived
+pub fn arrive(m: Memory, p: Packet) -> Arrived
     ensures { λ r. ⌜ arrived r ≡ asks 7 (effect-questions (memory-view m) p (p .content)) (effect (memory-view m) p (p .content)) ⌝ }
 {
     let c = p.content;

@@ -1,5 +1,5 @@
 // Frame 11: the oldest packet of a name leaves the wire and does its work where it arrives.
-mod chare;
+pub mod chare;
 
 ghost use mathlib.Core.Path.{_≡_};
 ghost use Rattle.lists.specs.Questions.{asks};
@@ -7,14 +7,13 @@ ghost use Rattle.protocol.specs.Packets.{note-of};
 ghost use Rattle.protocol.specs.Questions.{deliver-questions, on-wire};
 ghost use Rattle.notes.specs.View.{noted};
 ghost use Rattle.layout.specs.View.{layout-view};
-ghost use Rattle.wire.specs.View.{packets};
+ghost use Rattle.wire.specs.View.{waiting, without};
 ghost use Rattle.state.specs.View.{statuses, view};
 ghost use Rattle.state.specs.Outcome.{outcome-view, tried};
 ghost use Rattle.delivery.specs.More.{first-no};
 ghost use Rattle.delivery.specs.NoteEffect.{note-effect, note-questions};
-ghost use Rattle.delivery.specs.View.{note-arrived, answered, refused};
-ghost use Rattle.delivery.specs.Frame.{is-up, in-range, first-questions, delivered};
-ghost use Rattle.delivery.specs.Handled.{place-index, Handles};
+ghost use Rattle.delivery.specs.View.{note-arrived, answered};
+ghost use Rattle.delivery.specs.Frame.{place-index, is-up, in-range, first-questions, delivered};
 use chare::Reply;
 use layout::Layout;
 use notes::Notes;
@@ -24,20 +23,18 @@ use protocol::Note;
 use protocol::Packet;
 use protocol::Status;
 use state::Machine;
-use state::Memory;
 use state::State;
 use state::Stepped;
-use wire::Taken;
-use wire::Wire;
+use wire::Found;
 
 // What a NOTE leaves of a note list. The refusal is 0 if there is none; else the list is as before.
-struct NoteArrived {
-    refusal: u8,
-    notes: Notes,
+pub struct NoteArrived {
+    pub refusal: u8,
+    pub notes: Notes,
 }
 
 // NOTE is stored unless present.
-fn note(l: Notes, p: Packet, tn: u16) -> NoteArrived
+pub fn note(l: Notes, p: Packet, tn: u16) -> NoteArrived
     ensures { λ r. ⌜ note-arrived r ≡ asks 7 (note-questions (noted l) (note-of p tn)) (note-effect (noted l) (note-of p tn)) ⌝ }
 {
     let x = Note {
@@ -72,14 +69,16 @@ pub fn place(kind: u8, sender: u8, receiver: u8) -> usize
     state::number(c) as usize
 }
 
-// The wire with an answer under the packet's own name.
-fn answer(w: Wire, p: Packet, r: Reply) -> Wire
-    ensures { λ v. ⌜ packets v ≡ answered (packets w) p r ⌝ }
+// The packet at a place leaves the wire, and an answer under its own name goes on it. How many packets there are then.
+pub fn answer(words: &mut [u64; 128], len: u8, at: u8, p: Packet, r: Reply) -> u8
+    ensures { λ n. ⌜ waiting (now (words .exit)) n ≡ answered (without at (waiting (now (words .entry)) len)) p r ⌝ }
 {
+    let n = wire::leave(words, len, at);
     match r {
-        Reply::Nothing => w,
-        Reply::Send(content) => wire::push(
-            w,
+        Reply::Nothing => n,
+        Reply::Send(content) => wire::join(
+            words,
+            n,
             Packet {
                 sender: p.sender,
                 receiver: p.receiver,
@@ -132,7 +131,7 @@ fn in_range(l: Layout, kind: u8, sender: u8, receiver: u8, sn: u16) -> bool
 }
 
 // The questions before the packet is sought: the number of the first "no", or 0.
-fn judge(
+pub fn judge(
     l: Layout,
     lost: bool,
     machines: [Machine; 7],
@@ -158,98 +157,68 @@ fn judge(
     0
 }
 
-// What a delivery leaves of the parts of the state that it may change. A refused one leaves them as they were.
-pub struct Handled {
-    pub answer: Answer,
-    pub memory: Memory,
-    pub notes: Notes,
-    pub wire: Wire,
-}
-
-fn refused(no: u8, memory: Memory, notes: Notes, wire: Wire) -> Handled
-    ensures { λ r. ⌜ r ≡ refused no memory notes wire ⌝ }
-{
-    Handled {
-        answer: Answer::Refused(no),
-        memory,
-        notes,
-        wire,
-    }
-}
-
-// A delivery, by the parts of the state: the memory of the chare at `place`, the note list for the receiver's machine, and the wire.
-// A delivery refused leaves the packet on the wire; one accepted takes it off before an answer is put on.
-pub fn handle(
-    layout: Layout,
-    lost: bool,
-    machines: [Machine; 7],
-    memory: Memory,
-    notes: Notes,
-    wire: Wire,
-    kind: u8,
-    sender: u8,
-    receiver: u8,
-    sn: u16,
-) -> Handled
-    ensures { λ r. ⌜ Handles layout lost machines memory notes wire kind sender receiver sn r ⌝ }
-{
-    let no = judge(layout, lost, machines, kind, sender, receiver, sn);
-    if no != 0 {
-        return refused(no, memory, notes, wire);
-    }
-    let d = wire::take(wire, kind, sender, receiver, sn);
-    let found = d.found;
-    let Taken::Got(p) = found else {
-        return refused(6, memory, notes, wire);
-    };
-    let rest = d.wire;
-    let content = p.content;
-    if let Content::Note(tn) = content {
-        let a = note(notes, p, tn);
-        if a.refusal != 0 {
-            return refused(a.refusal, memory, notes, wire);
-        }
-        let noted = a.notes;
-        return Handled {
-            answer: Answer::Accepted,
-            memory,
-            notes: noted,
-            wire: answer(rest, p, Reply::Send(Content::Ack)),
-        };
-    }
-    let a = chare::arrive(memory, p);
-    if a.refusal != 0 {
-        return refused(a.refusal, memory, notes, wire);
-    }
-    let changed = a.memory;
-    let reply = a.reply;
-    Handled {
-        answer: Answer::Accepted,
-        memory: changed,
-        notes,
-        wire: answer(rest, p, reply),
-    }
-}
-
-// Frame 11.
+// Frame 11. A delivery refused leaves the packet on the wire; one accepted takes it off before an answer is put on.
 pub fn deliver(s: State, kind: u8, sender: u8, receiver: u8, sn: u16) -> Stepped
     ensures { λ r. ⌜ outcome-view r ≡ tried (view s) (deliver-questions (view s) kind sender receiver sn) (delivered (view s) kind sender receiver sn (on-wire (view s) kind sender receiver sn)) ⌝ }
 {
     let l = s.layout;
     let machines = s.machines;
-    let i = place(kind, sender, receiver);
-    let h = layout::home(l, receiver) as usize;
-    let m = s.live[i];
-    let n = s.notes[h];
-    let w = s.wire;
-    let r = handle(l, s.lost, machines, m, n, w, kind, sender, receiver, sn);
+    let no = judge(l, s.lost, machines, kind, sender, receiver, sn);
+    if no != 0 {
+        return Stepped {
+            state: s,
+            answer: Answer::Refused(no),
+        };
+    }
     let mut t = s;
-    let memory = r.memory;
-    let notes = r.notes;
-    let wire = r.wire;
-    let answer = r.answer;
-    t.live[i] = memory;
-    t.notes[h] = notes;
-    t.wire = wire;
-    Stepped { state: t, answer }
+    let len = t.wire.len;
+    let found = wire::find(&t.wire.words, len, kind, sender, receiver, sn);
+    let Found::At {
+        place: at,
+        packet: p,
+    } = found
+    else {
+        return Stepped {
+            state: s,
+            answer: Answer::Refused(6),
+        };
+    };
+    let content = p.content;
+    if let Content::Note(tn) = content {
+        let h = layout::home(l, receiver) as usize;
+        let n = t.notes[h];
+        let a = note(n, p, tn);
+        if a.refusal != 0 {
+            return Stepped {
+                state: s,
+                answer: Answer::Refused(a.refusal),
+            };
+        }
+        let noted = a.notes;
+        t.notes[h] = noted;
+        let r = answer(&mut t.wire.words, len, at, p, Reply::Send(Content::Ack));
+        t.wire.len = r;
+        return Stepped {
+            state: t,
+            answer: Answer::Accepted,
+        };
+    }
+    let i = place(kind, sender, receiver);
+    let m = t.live[i];
+    let a = chare::arrive(m, p);
+    if a.refusal != 0 {
+        return Stepped {
+            state: s,
+            answer: Answer::Refused(a.refusal),
+        };
+    }
+    let changed = a.memory;
+    t.live[i] = changed;
+    let reply = a.reply;
+    let r = answer(&mut t.wire.words, len, at, p, reply);
+    t.wire.len = r;
+    Stepped {
+        state: t,
+        answer: Answer::Accepted,
+    }
 }

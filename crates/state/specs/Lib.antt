@@ -2,5 +2,4 @@
 pub mod View
 pub mod Store
 pub mod Outcome
-pub mod PutBack
 pub mod Number

@@ -6,7 +6,7 @@ use borrow.Author.Needs.{needs}
 use borrow.Author.Tests.{eq-eqb, ne-eqb}
 use lib.Dec.{eqb}
 use Rattle.state.specs.Number.{number}
-use Rattle.delivery.specs.Handled.{place-index}
+use Rattle.delivery.specs.Frame.{place-index}
 use Rattle.delivery.proofs.place.Statement.{statement}
 use Rattle.delivery.proofs.place.Tie as tie
 

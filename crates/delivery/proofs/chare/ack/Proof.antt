@@ -9,15 +9,12 @@ use Rattle.delivery.proofs.chare.ack.Tie as tie
 note-requires : tie.Need-note-requires
 note-requires c κs = search needs
 
-with-table-requires : tie.Need-with-table-requires
-with-table-requires c κs = search needs
-
 quiet-requires : tie.Need-quiet-requires
 quiet-requires c κs = search needs
 
 returns : tie.Need-returns
 unfolding ack-effect memory-view
-returns c = c .quiet .ensures ∙ rw (c .before .with-table .ensures, c .before .before .note .ensures)
+returns c = c .quiet .ensures ∙ rw (c .before .note .ensures)
 
 pub ack-spec : {M : Type 1} → statement M
-ack-spec = tie.close (tie.spec note-requires with-table-requires quiet-requires returns)
+ack-spec = tie.close (tie.spec note-requires quiet-requires returns)

@@ -1,5 +1,7 @@
 -- `data_in` goes by the entry found, and by whether it is received.
 use mathlib.Core.Path.{sym, ap, _∙_}
+use mathlib.Core.Logic.{⊎-elim}
+use borrow.Author.Tests.{not-true, not-false}
 use borrow.Author.Needs.{needs}
 use Rattle.lists.specs.Questions.{ok}
 use Rattle.table.specs.Table.{found-entry}
@@ -11,8 +13,11 @@ use Rattle.delivery.proofs.chare.data_in.Tie as tie
 find-requires : tie.Need-find-requires
 find-requires c κs = search needs
 
-enum-known-e : tie.Need-enum-known-e
-enum-known-e c = search needs
+enum-known-f : tie.Need-enum-known-f
+enum-known-f c = search needs
+
+fill-requires : tie.Need-fill-requires
+fill-requires c κs = search needs
 
 enum-told : tie.Need-enum-told
 enum-told c = search needs
@@ -22,45 +27,16 @@ quiet-requires c κs = search needs
 
 returns : tie.Need-returns
 unfolding found-entry memory-view
-returns c = c .quiet .ensures ∙ ap ok (data-no-entry _ _ _ _ _ (sym (c .before .before .before .find .ensures) ∙ ap found-entry (c .before .enum-told .given .1)))
-
-quiet-requires-2 : tie.Need-quiet-requires-2
-quiet-requires-2 c κs = search needs
-
-returns-2 : tie.Need-returns-2
-unfolding found-entry memory-view
-returns-2 c =
-    let d = c .before .before .before in
-    c .quiet2 .ensures ∙ ap ok (data-received _ _ _ _ _ (sym (d .before .before .find .ensures) ∙ ap found-entry (d .e .given .1)) (c .before .if1 .taken))
-
-fill-requires : tie.Need-fill-requires
-fill-requires c κs = search needs
-
-with-table-requires : tie.Need-with-table-requires
-with-table-requires c κs = search needs
-
-quiet-requires-3 : tie.Need-quiet-requires-3
-quiet-requires-3 c κs = search needs
-
-returns-3 : tie.Need-returns-3
-unfolding found-entry memory-view
-returns-3 c =
-    let d = c .before .before .before .before .before in
-    c .quiet3 .ensures ∙ rw (c .before .with-table .ensures, c .before .before .fill .ensures)
-    (ap ok (data-fills _ _ _ _ _ (sym (d .before .before .find .ensures) ∙ ap found-entry (d .e .given .1)) (c .before .before .before .if1 .left)))
+returns c =
+    let found = sym (c .before .before .find .ensures) in
+    c .quiet .ensures ∙ ap ok
+    (⊎-elim
+    (λ w. rw (w .6, w .5 .ensures)
+    (data-fills _ _ _ _ _ (found ∙ ap found-entry (w .1 .given .1)) (not-true _ (w .4 .taken))))
+    (⊎-elim
+    (λ w. rw (w .5) (data-received _ _ _ _ _ (found ∙ ap found-entry (w .1 .given .1)) (not-false _ (w .4 .left))))
+    (λ w. rw (w .2) (data-no-entry _ _ _ _ _ (found ∙ ap found-entry (w .1 .given .1)))))
+    (c .before .match .came))
 
 pub data-in-spec : {M : Type 1} → statement M
-data-in-spec =
-    tie.close
-    (tie.spec
-    find-requires
-    enum-known-e
-    enum-told
-    quiet-requires
-    returns
-    quiet-requires-2
-    returns-2
-    fill-requires
-    with-table-requires
-    quiet-requires-3
-    returns-3)
+data-in-spec = tie.close (tie.spec find-requires enum-known-f fill-requires enum-told quiet-requires returns)

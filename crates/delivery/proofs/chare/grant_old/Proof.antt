@@ -25,17 +25,14 @@ returns c = c .quiet .ensures ∙ ap ok (dropped _ _ (c .before .before .lookup 
 remove-requires : tie.Need-remove-requires
 remove-requires c κs = search needs
 
-with-log-requires : tie.Need-with-log-requires
-with-log-requires c κs = search needs
-
 quiet-requires-2 : tie.Need-quiet-requires-2
 quiet-requires-2 c κs = search needs
 
 returns-2 : tie.Need-returns-2
 unfolding grant-old-effect memory-view
 returns-2 c =
-    let d = c .before .before .before in
-    c .quiet2 .ensures ∙ rw (c .before .with-log .ensures, c .before .before .remove .ensures) (ap ok (taken-out _ _ (d .before .before .lookup .ensures) (d .enum-told .given .1)))
+    let d = c .before .before in
+    c .quiet2 .ensures ∙ rw (c .before .remove .ensures) (ap ok (taken-out _ _ (d .before .before .lookup .ensures) (d .enum-told .given .1)))
 
 pub grant-old-spec : {M : Type 1} → statement M
 grant-old-spec =
@@ -46,6 +43,5 @@ grant-old-spec =
     quiet-requires
     returns
     remove-requires
-    with-log-requires
     quiet-requires-2
     returns-2)
