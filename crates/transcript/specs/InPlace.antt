@@ -1,9 +1,9 @@
 -- A step in place: what a frame leaves of the parts of a state, put back, is what it leaves of the state.
 use mathlib.Core.Path.{_≡_, refl, sym, ap, _∙_}
 use mathlib.Core.Bool.{Bool, true, false}
-use mathlib.Core.List.{[]}
+use mathlib.Core.List.{List, []}
 use mathlib.Core.Logic.{_≢_}
-use Prim.Native.Nat.{ℕ, _≤_}
+use Prim.Native.Nat.{ℕ, _≤_, min}
 use native.Mathlib.Omega.{arith}
 use lib.ListN.{length, getD, set, length-set}
 use Rattle.protocol.specs.declared.Answer.{Answer}
@@ -16,26 +16,29 @@ use Rattle.frames.specs.declared.Frame.the-variants.{Garbled, Inject, Deliver, 
 use Rattle.layout.specs.View.{layout-view}
 use Rattle.notes.specs.declared.Notes.{Notes}
 use Rattle.notes.specs.View.{noted}
+use Rattle.state.specs.declared.Memory.{Memory}
 use Rattle.state.specs.declared.State.{State}
 use Rattle.state.specs.declared.Stepped.{Stepped}
 use Rattle.state.specs.View.{view, statuses, no-memory, no-notes}
 use Rattle.state.specs.Number.{number}
 use Rattle.state.specs.Outcome.{outcome-view}
-use Rattle.state.specs.PutBack.{put-back}
 use Rattle.machines.specs.declared.Course.{Course}
 use Rattle.machines.specs.Settle.{Runs, with-course}
 use Rattle.machines.specs.Shown.{Shows}
 use Rattle.machines.specs.Standing.{holding}
 use Rattle.checkpoints.specs.Swept.{Swept, swept-end, with-machine}
 use Rattle.checkpoints.specs.Whole.{Judges, checkpoint-refused, checkpoint-done, checkpoint-in}
-use Rattle.delivery.specs.declared.Handled.{Handled}
-use Rattle.delivery.specs.Handled.{Handles, place-index}
-use Rattle.delivery.specs.Named.{place-top, home-small}
-use Rattle.sending.specs.declared.Injected.{Injected}
+use Rattle.wire.specs.declared.Wire.{Wire}
+use Rattle.wire.specs.Laws.{packets-fit}
+use Rattle.wire.specs.View.{waiting, packets}
+use Rattle.delivery.specs.InPlace.{chare-changed, notes-changed}
+use Rattle.delivery.specs.Judged.{the-outcome}
+use Rattle.sending.specs.declared.Planned.{Planned}
+use Rattle.sending.specs.InPlace.{Sending, worked-in, with-live, sending-end}
+use Rattle.sending.specs.InjectBy.{inject-outcome}
 use Rattle.sending.specs.declared.Places.{Places}
-use Rattle.sending.specs.declared.Acted.{Acted}
-use Rattle.sending.specs.ByParts.{Injects, Works, AtPorts, places-of, put-trio}
-use Rattle.sending.specs.InjectBy.{frame-injects}
+use Rattle.sending.specs.Places.{places-of, sees-work}
+use Rattle.sending.specs.Planned.{Plans, PlannedFor, work-outcome}
 use Rattle.engine.specs.Play.{settle-after, must-settle, nothing-settles, something-settles}
 use Rattle.engine.specs.Dispatch.{acted, steps}
 
@@ -60,6 +63,17 @@ pub record Steps (s : State) (l : Line) (t : State) (answer : Answer) : Type 0 w
   pub sized : Sized t
   pub outcome : comes-to t answer ≡ step (view s) l
 
+-- ---- what the functions are handed of the wire: how many packets wait
+pub held-size : (w : Wire) (h : ℕ) → h ≡ length (waiting (w .words) (w .len)) → min h 128 ≡ length (packets w)
+unfolding packets
+held-size w h e = omega (arith, e, packets-fit w)
+
+pub planned : (s : State) (c : ℕ) (p : Places) → p ≡ places-of (layout-view (s .layout)) c → (h : ℕ) → h ≡ length (waiting (s .wire .words) (s .wire .len)) → (r : Planned)
+    → Plans (s .layout) (s .lost) (s .machines) (getD (s .live) (p .a) no-memory) (getD (s .live) (p .b) no-memory) (getD (s .live) (p .c) no-memory) h c r
+    → PlannedFor (view s) c (work-outcome s c) r
+unfolding Plans
+planned s c p at h e r plans = plans s (sees-work s c p at h (held-size (s .wire) h e))
+
 -- ---- the frames: f is known
 module _ (s : State) (l : Line) (f : Frame) (t : State) (answer : Answer) where
   pub by-act : (r : Stepped) → Sized (r .state) → outcome-view r ≡ acted (view s) l f → t ≡ r .state → answer ≡ r .answer → Acts s l f t answer
@@ -76,46 +90,56 @@ module _ (s : State) (l : Line) (f : Frame) (t : State) (answer : Answer) where
     unfolding acted outcome-view Shows
     by-show c i r is at w left told = rw (is, left, told) (record { sized = z; outcome = w s refl refl refl (rw at) })
 
-    pub by-inject : (c value hops : ℕ) (r : Injected) → f ≡ Inject c value hops → Injects (s .layout) (s .lost) (getD (s .live) 0 no-memory) (s .wire) c value hops r
-        → t ≡ record { layout = s .layout; lost = s .lost; machines = s .machines; target = s .target; live = set (s .live) 0 (r .desk); copy = s .copy; notes = s .notes; wire = r .wire }
-        → answer ≡ r .answer → Acts s l f t answer
-    unfolding acted outcome-view
-    by-inject c value hops r is i left told =
-        rw (is, left, told)
-        (record { sized = record { machines = z .machines; live = simp length-set (z .live); copy = z .copy; notes = z .notes }; outcome = frame-injects s c value hops r (omega arith) (omega arith) i })
+    -- an inject that is refused, or changes the desk's memory and the wire
+    module _ (c value hops : ℕ) (is : f ≡ Inject c value hops) where
+      pub by-inject-refused : (q : ℕ) → outcome-view (record { state = s; answer = Refused q }) ≡ inject-outcome s c value hops → t ≡ s → answer ≡ Refused q → Acts s l f t answer
+      unfolding acted outcome-view
+      by-inject-refused q e left told = rw (is, left, told) (record { sized = z; outcome = e })
 
-    pub by-handle : (k a b n i h : ℕ) (r : Handled) → f ≡ Deliver k a b n → i ≡ place-index k a b → h ≡ layout-view (s .layout) .home b
-        → Handles (s .layout) (s .lost) (s .machines) (getD (s .live) i no-memory) (getD (s .notes) h no-notes) (s .wire) k a b n r
-        → t ≡ put-back s i (r .memory) h (r .notes) (r .wire) → answer ≡ r .answer → Acts s l f t answer
-    unfolding acted outcome-view Handles
-    by-handle k a b n i h r is place home w left told =
-        rw (is, left, told)
-        (record {
-          sized = record { machines = z .machines; live = simp length-set (z .live); copy = z .copy; notes = simp length-set (z .notes) };
-          outcome =
-              rw (place, home)
-              (w s (record {
-                layout = refl;
-                lost = refl;
-                machines = refl;
-                memory = rw place;
-                notes = rw home;
-                wire = refl;
-                here = omega (arith, place-top k a b);
-                there = omega (arith, home-small (s .layout) b home);
-              }));
-        })
+      pub by-inject : (m : Memory) (w : Wire) → outcome-view (record { state = with-live s (set (s .live) 0 m) w; answer = Accepted }) ≡ inject-outcome s c value hops
+          → t ≡ with-live s (set (s .live) 0 m) w → answer ≡ Accepted → Acts s l f t answer
+      unfolding acted outcome-view
+      by-inject m w e left told =
+          rw (is, left, told) (record { sized = record { machines = z .machines; live = simp length-set (z .live); copy = z .copy; notes = z .notes }; outcome = e })
 
-    pub by-work : (c : ℕ) (p : Places) (r : Acted) → f ≡ Work c → p ≡ places-of (layout-view (s .layout)) c
-        → Works (s .layout) (s .lost) (s .machines) p (record { x = getD (s .live) (p .a) no-memory; y = getD (s .live) (p .b) no-memory; z = getD (s .live) (p .c) no-memory; wire = s .wire }) c r
-        → t ≡ put-trio s p (r .trio) → answer ≡ r .answer → Acts s l f t answer
-    unfolding acted outcome-view Works AtPorts
-    by-work c p r is at w left told =
-        rw (is, left, told)
-        (record {
-          sized = record { machines = z .machines; live = simp length-set (z .live); copy = z .copy; notes = z .notes };
-          outcome = w s (record { layout = refl; lost = refl; machines = refl; first = refl; second = refl; third = refl; wire = refl; all = z .live }) at;
-        })
+    -- a work: u has all sends made
+    module _ (c : ℕ) (is : f ≡ Work c) (r : Planned) where
+      pub by-work-refused : outcome-view (record { state = s; answer = Refused (r .no) }) ≡ work-outcome s c → t ≡ s → answer ≡ Refused (r .no) → Acts s l f t answer
+      unfolding acted outcome-view
+      by-work-refused e left told = rw (is, left, told) (record { sized = z; outcome = e })
+
+      pub by-work : PlannedFor (view s) c (work-outcome s c) r → r .no ≡ 0 → (i : ℕ) → i ≡ number c → (n : ℕ) (u : State) → Sending (worked-in s i r) i (r .count) (r .sends) n u → r .count ≤ n
+          → t ≡ u → answer ≡ Accepted → Acts s l f t answer
+      unfolding acted outcome-view
+      by-work p none i at n u w all left told =
+          rw (is, left, told)
+          (record {
+            sized = record {
+              machines = ap (λ x. length (x .machines)) (w .rest) ∙ z .machines;
+              live = w .size;
+              copy = ap (λ x. length (x .copy)) (w .rest) ∙ z .copy;
+              notes = ap (λ x. length (x .notes)) (w .rest) ∙ z .notes;
+            };
+            outcome = sending-end s c r p none (z .live) i at n u w all;
+          })
+
+    -- a delivery that is refused, or changes a memory and the wire, or a note list and the wire
+    module _ (k a b n : ℕ) (is : f ≡ Deliver k a b n) where
+      pub by-delivery-refused : (q : ℕ) → outcome-view (record { state = s; answer = Refused q }) ≡ the-outcome (view s) k a b n → t ≡ s → answer ≡ Refused q → Acts s l f t answer
+      unfolding acted outcome-view
+      by-delivery-refused q e left told = rw (is, left, told) (record { sized = z; outcome = e })
+
+      pub by-arrival : (i : ℕ) (m : Memory) (len : ℕ) (words : List ℕ) → outcome-view (record { state = chare-changed s i m len words; answer = Accepted }) ≡ the-outcome (view s) k a b n
+          → t ≡ chare-changed s i m len words → answer ≡ Accepted → Acts s l f t answer
+      unfolding acted outcome-view
+      by-arrival i m len words e left told =
+          rw (is, left, told) (record { sized = record { machines = z .machines; live = simp length-set (z .live); copy = z .copy; notes = z .notes }; outcome = e })
+
+      pub by-noting : (h : ℕ) (m : Notes) (len : ℕ) (words : List ℕ) → outcome-view (record { state = notes-changed s h m len words; answer = Accepted }) ≡ the-outcome (view s) k a b n
+          → t ≡ notes-changed s h m len words → answer ≡ Accepted → Acts s l f t answer
+      unfolding acted outcome-view
+      by-noting h m len words e left told =
+          rw (is, left, told) (record { sized = record { machines = z .machines; live = z .live; copy = z .copy; notes = simp length-set (z .notes) }; outcome = e })
 
     -- a checkpoint, by the number of the first question that is answered "no"
     module _ (p n : ℕ) (is : f ≡ Checkpoint p) (e : Judges (s .layout) (s .lost) (s .machines) p n) where
@@ -158,3 +182,7 @@ module _ (s : State) (l : Line) (f : Frame) (t : State) (answer : Answer) (b : B
         sized = record { machines = long; live = acts .sized .live; copy = acts .sized .copy; notes = acts .sized .notes };
         outcome = ap (λ x. record { state = x; answer = answer }) (runs t refl refl refl refl) ∙ sym (something-settles (comes-to t answer) (sym asked ∙ e)) ∙ stepped;
       })
+
+  -- no machine that is catching up has all its chares at their targets
+  pub by-unreached : b ≡ true → Runs (t .layout) (t .machines) (t .target) (t .live) (record { machines = t .machines; target = t .target }) → (u : State) → u ≡ t → Steps s l u answer
+  by-unreached e runs u left = by-settle e (record { machines = t .machines; target = t .target }) (acts .sized .machines) runs u left

@@ -6,12 +6,16 @@ ghost use lib.ListN.{length, take, drop};
 ghost use Rattle.transcript.specs.Reading.{beginning, printed};
 ghost use Rattle.transcript.specs.LineWise.{line-end};
 ghost use Rattle.transcript.specs.Copies.{put-at};
+ghost use Rattle.wire.specs.View.{waiting};
 ghost use Rattle.transcript.specs.View.{reading, Feeding, Ending, Transcribed};
+use delivery::chare::Reply;
 use frames::Frame;
 use protocol::Answer;
-use sending::Trio;
+use protocol::Content;
+use sending::ticket::Ticket;
 use state::Machine;
 use state::State;
+use wire::Found;
 
 // The state, and the first bytes of the line under way. A line longer than any frame is cut, and stays longer than any frame.
 pub struct Reader {
@@ -96,6 +100,18 @@ fn put(out: &mut [u8], at: usize, answer: Answer) -> usize
     n
 }
 
+// How many packets wait in these words.
+fn count(words: &[u64], len: u8) -> u8
+    ensures { λ r. ⌜ r ≡ length (waiting (now (words .entry)) len) ⌝ }
+{
+    let n = wire::held(len);
+    if (n as usize) < words.len() {
+        n
+    } else {
+        words.len() as u8
+    }
+}
+
 // Takes bytes of the input while there is room for one more answer in the buffer.
 pub fn feed(r: Reader, input: &[u8], out: &mut [u8]) -> Fed
     ensures { λ f. ⌜ Feeding (reading r) (now (input .entry)) (now (out .entry)) f (now (out .exit)) ⌝ }
@@ -105,6 +121,8 @@ pub fn feed(r: Reader, input: &[u8], out: &mut [u8]) -> Fed
     let mut len = least(r.len, 2047);
     let mut taken = 0;
     let mut written = 0;
+    let live = state.live;
+    let mut heights = machines::heights(live);
     loop {
         if out.len() - written < 15 {
             let reader = Reader { state, len, line };
@@ -125,7 +143,8 @@ pub fn feed(r: Reader, input: &[u8], out: &mut [u8]) -> Fed
             };
         }
         // A step in place: the state by value would be copied some times for each frame, so the frequent frames take out and put back
-        // only the parts that they change.
+        // only the parts that they change. The same lines stand in the frames' functions on whole states, since a function for both
+        // would have to be given the state.
         let f = frames::read(&line[..len]);
         let layout = state.layout;
         let lost = state.lost;
@@ -137,14 +156,18 @@ pub fn feed(r: Reader, input: &[u8], out: &mut [u8]) -> Fed
             }
             Frame::Inject { chare, value, hops } => {
                 let x = state.live[0];
-                let w = state.wire;
-                let r = sending::inject_by(layout, lost, x, w, chare, value, hops);
-                let desk = r.desk;
-                let wire = r.wire;
-                state.live[0] = desk;
-                state.wire = wire;
-                let a = r.answer;
-                answer = a;
+                let len = state.wire.len;
+                let held = count(&state.wire.words, len);
+                let no = sending::judge::judge_inject(layout, lost, x, held, chare, hops);
+                if no != 0 {
+                    answer = Answer::Refused(no);
+                } else {
+                    let m = sending::message::next_message(x, 0, chare, value, hops);
+                    let y = sending::message::log_message(x, m, 0);
+                    state.live[0] = y;
+                    let r = sending::message::put(&mut state.wire.words, len, m, Ticket::Remote);
+                    state.wire.len = r;
+                }
             }
             Frame::Deliver {
                 kind,
@@ -152,31 +175,59 @@ pub fn feed(r: Reader, input: &[u8], out: &mut [u8]) -> Fed
                 receiver,
                 sn,
             } => {
-                let i = delivery::place(kind, sender, receiver);
-                let h = layout::home(layout, receiver) as usize;
-                let m = state.live[i];
-                let n = state.notes[h];
-                let w = state.wire;
-                let r = delivery::handle(
-                    layout,
-                    lost,
-                    machines,
-                    m,
-                    n,
-                    w,
-                    kind,
-                    sender,
-                    receiver,
-                    sn,
-                );
-                let memory = r.memory;
-                let notes = r.notes;
-                let wire = r.wire;
-                state.live[i] = memory;
-                state.notes[h] = notes;
-                state.wire = wire;
-                let a = r.answer;
-                answer = a;
+                let no = delivery::judge(layout, lost, machines, kind, sender, receiver, sn);
+                if no != 0 {
+                    answer = Answer::Refused(no);
+                } else {
+                    let len = state.wire.len;
+                    let found = wire::find(&state.wire.words, len, kind, sender, receiver, sn);
+                    match found {
+                        Found::Nothing => {
+                            answer = Answer::Refused(6);
+                        }
+                        Found::At { place, packet } => {
+                            let content = packet.content;
+                            if let Content::Note(tn) = content {
+                                let h = layout::home(layout, receiver) as usize;
+                                let n = state.notes[h];
+                                let a = delivery::note(n, packet, tn);
+                                if a.refusal != 0 {
+                                    answer = Answer::Refused(a.refusal);
+                                } else {
+                                    let noted = a.notes;
+                                    state.notes[h] = noted;
+                                    let r = delivery::answer(
+                                        &mut state.wire.words,
+                                        len,
+                                        place,
+                                        packet,
+                                        Reply::Send(Content::Ack),
+                                    );
+                                    state.wire.len = r;
+                                }
+                            } else {
+                                let i = delivery::place(kind, sender, receiver);
+                                let m = state.live[i];
+                                let a = delivery::chare::arrive(m, packet);
+                                if a.refusal != 0 {
+                                    answer = Answer::Refused(a.refusal);
+                                } else {
+                                    let changed = a.memory;
+                                    state.live[i] = changed;
+                                    let reply = a.reply;
+                                    let r = delivery::answer(
+                                        &mut state.wire.words,
+                                        len,
+                                        place,
+                                        packet,
+                                        reply,
+                                    );
+                                    state.wire.len = r;
+                                }
+                            }
+                        }
+                    }
+                }
             }
             Frame::Work(chare) => {
                 let p = sending::places_of(layout, chare);
@@ -186,41 +237,55 @@ pub fn feed(r: Reader, input: &[u8], out: &mut [u8]) -> Fed
                 let x = state.live[i];
                 let y = state.live[j];
                 let z = state.live[k];
-                let wire = state.wire;
-                let r = sending::work_by(layout, lost, machines, p, Trio { x, y, z, wire }, chare);
-                let t = r.trio;
-                let own = t.x;
-                let one = t.y;
-                let two = t.z;
-                let w = t.wire;
-                state.live[k] = two;
-                state.live[j] = one;
-                state.live[i] = own;
-                state.wire = w;
-                let a = r.answer;
-                answer = a;
+                let held = count(&state.wire.words, state.wire.len);
+                let w = sending::plan_work(layout, lost, machines, x, y, z, held, chare);
+                if w.no != 0 {
+                    answer = Answer::Refused(w.no);
+                } else {
+                    let memory = w.memory;
+                    state.live[i] = memory;
+                    let sends = w.sends;
+                    let all = w.count as usize;
+                    let mut n = 0;
+                    while n < all {
+                        let o = sends[n];
+                        n += 1;
+                        let m = o.message;
+                        let h = o.ticket;
+                        let b = m.receiver as usize;
+                        let y = state.live[b];
+                        let u = sending::ticket::take_ticket(y, m, h);
+                        state.live[b] = u;
+                        let x = state.live[i];
+                        let v = sending::message::log_message(x, m, sending::ticket::tn_of(h));
+                        state.live[i] = v;
+                        let len = state.wire.len;
+                        let r = sending::message::put(&mut state.wire.words, len, m, h);
+                        state.wire.len = r;
+                    }
+                }
             }
             Frame::Checkpoint(p) => {
                 let no = checkpoints::judge(layout, lost, machines, p);
                 if no != 0 {
                     answer = Answer::Refused(no);
                 } else {
-                    let live = state.live;
-                    let heights = machines::heights(live);
                     let which = machines::on_machine(layout, p);
                     let mut n = 0;
                     while n < 13 {
                         let c = n;
                         n += 1;
                         let i = c as usize;
-                        let x = state.live[i];
-                        if checkpoints::touches(layout, machines, which, c, x) {
-                            let k = state.copy[i];
-                            let v = checkpoints::visit(layout, machines, heights, which, c, x, k);
-                            let y = v.live;
-                            let z = v.copy;
+                        if which[i] {
+                            let x = state.live[i];
+                            let y = checkpoints::pruned(x);
                             state.live[i] = y;
-                            state.copy[i] = z;
+                            state.copy[i] = y;
+                        }
+                        let x = state.live[i];
+                        if checkpoints::loses(layout, machines, heights, which, c, x) {
+                            let y = checkpoints::cleaned(x, heights, which);
+                            state.live[i] = y;
                         }
                     }
                     let q = p as usize;
@@ -245,16 +310,35 @@ pub fn feed(r: Reader, input: &[u8], out: &mut [u8]) -> Fed
                 answer = a;
             }
         }
+        let mut high = [0u16; 13];
+        let mut i = 0;
+        while i < 13 {
+            let c = i;
+            i += 1;
+            high[c] = state.live[c].height;
+        }
+        heights = high;
         let now = state.machines;
         if engine::must_settle(answer, now) {
             let l = state.layout;
             let target = state.target;
-            let live = state.live;
-            let q = machines::settled(l, now, target, live);
-            let m = q.machines;
-            let t = q.target;
-            state.machines = m;
-            state.target = t;
+            if machines::reached(l, now, target, heights) {
+                let mut waits = [false; 13];
+                let mut k = 0;
+                while k < 13 {
+                    let c = k;
+                    k += 1;
+                    let x = state.live[c];
+                    let g = x.log;
+                    let ticketed = log::all_ticketed(g);
+                    waits[c] = !ticketed;
+                }
+                let q = machines::settled(l, now, target, heights, waits);
+                let m = q.machines;
+                let t = q.target;
+                state.machines = m;
+                state.target = t;
+            }
         }
         written += put(out, written, answer);
         taken = end + 1;
