@@ -89,7 +89,8 @@ pub fn answer(words: &mut [u64; 128], len: u8, at: u8, p: Packet, r: Reply) -> u
     }
 }
 
-// The desk's place, number 0, is always up.
+// The desk's place, number 0, is always up. The crates of the frames stand side by side, so that a change in one moves no other: this
+// function, and the first questions below, have their like in `machines`.
 fn is_up(machines: [Machine; 7], p: u8) -> bool
     ensures { λ r. ⌜ r ≡ is-up (statuses machines) p ⌝ }
 {

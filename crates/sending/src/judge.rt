@@ -41,6 +41,7 @@ pub fn judge_inject(l: Layout, lost: bool, desk: Memory, len: u8, chare: u8, hop
     0
 }
 
+// As in `restarts`: the crates of the frames stand side by side.
 fn is_down(m: Machine) -> bool
     ensures { λ r. ⌜ r ≡ is-down (m .status) ⌝ }
 {

@@ -1,4 +1,6 @@
-// A receiver's ticket table of at most 16 entries, by value. A count above the room counts as the room.
+// A receiver's ticket table of at most 16 entries, by value. A count above the room counts as the room. The language has no generics and
+// no function takes a test: `log`, `notes` and `wire` have the like for their own elements, and each search is written out. The laws of
+// these loops are said once, in `arrays`.
 ghost use mathlib.Core.Path.{_≡_};
 ghost use mathlib.Core.List.{[], map};
 ghost use Prim.Native.Nat.{min};
