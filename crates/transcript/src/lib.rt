@@ -310,6 +310,7 @@ pub fn feed(r: Reader, input: &[u8], out: &mut [u8]) -> Fed
                 answer = a;
             }
         }
+        // The heights after the frame: for the machines that may have caught up, and for the next checkpoint.
         let mut high = [0u16; 13];
         let mut i = 0;
         while i < 13 {
