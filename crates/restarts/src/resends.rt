@@ -44,7 +44,7 @@ fn height_of(heights: [u16; 13], c: u8) -> u16
     heights[i]
 }
 
-// A packet named by a message.
+// A packet named by a message; `sending`, beside which this crate stands, has its own.
 fn packet(m: Message, content: Content) -> Packet
     ensures { λ r. ⌜ r ≡ about m content ⌝ }
 {

@@ -107,7 +107,7 @@ fn from_log(t: Table, log: Log, c: u8, h: u16) -> Entered
     }
 }
 
-// The tickets that the buddy noted.
+// The tickets that the buddy noted. The loop of `from_log` once more: no function takes a list of either kind.
 fn from_notes(t: Table, n: Notes, c: u8, h: u16) -> Entered
     ensures { λ r. ⌜ tickets r ≡ entering (entries t) (gather (noted c h) (notes-of n)) ⌝ }
 {
