@@ -25,7 +25,8 @@ use Rattle.layout.specs.View.{layout-view}
 use Rattle.layout.specs.ViewLaws.{chares-top}
 use Rattle.wire.specs.declared.Found.{Found}
 use Rattle.wire.specs.declared.Found.the-variants.{Nothing as Unfound, At}
-use Rattle.wire.specs.View.{packets, waiting, without, found, Finds}
+use Rattle.wire.specs.Laws.{sought-packet, sought-left}
+use Rattle.wire.specs.View.{packets, waiting, without, found, sought}
 use Rattle.state.specs.declared.Memory.{Memory}
 use Rattle.state.specs.declared.State.{State}
 use Rattle.state.specs.View.{memory-view, memories, no-memory, no-notes, note-lists, statuses, view}
@@ -78,18 +79,18 @@ module _ (s : State) (k a r n : ℕ) (no : ℕ) (first : no ≡ first-no 2 (firs
   unfolding outcome-view
   frame-refused h = rw first-seen (refused-first (view s) k a r n (λ e. h (first-seen ∙ e)))
 
-  module _ (clear : no ≡ 0) (f : Found) (finds : Finds k a r n (waiting (s .wire .words) (s .wire .len)) f) where
+  module _ (clear : no ≡ 0) (f : Found) (finds : f ≡ sought (is-named k a r n) (waiting (s .wire .words) (s .wire .len))) where
     clear-seen : firsts (view s) k a r n ≡ 0
     clear-seen = sym first-seen ∙ clear
 
     pub frame-missing : f ≡ Unfound → outcome-view (record { state = s; answer = Refused 6 }) ≡ the-outcome (view s) k a r n
     unfolding outcome-view view packets on-wire found
-    frame-missing e = refused-missing (view s) k a r n clear-seen (sym (finds .packet) ∙ ap found e)
+    frame-missing e = refused-missing (view s) k a r n clear-seen (sym (sought-packet _ _ finds) ∙ ap found e)
 
     module _ {at : ℕ} {p : Packet} (got : f ≡ At at p) where
       found-it : find (is-named k a r n) (waiting (s .wire .words) (s .wire .len)) ≡ some p
       unfolding found
-      found-it = sym (finds .packet) ∙ ap found got
+      found-it = sym (sought-packet _ _ finds) ∙ ap found got
 
       on-wire-it : on-wire (view s) k a r n ≡ some p
       unfolding view packets on-wire
@@ -103,7 +104,7 @@ module _ (s : State) (k a r n : ℕ) (no : ℕ) (first : no ≡ first-no 2 (firs
           → parts.with-wire t (waiting words len) ≡ with-reply (parts.with-wire t (remove1 (is-named k a r n) (view s .wire))) p (reply-of y)
       unfolding view packets
       answer-put t len words y e =
-          ap (parts.with-wire t) (e ∙ ap (λ l. answered l p y) (sym (finds .place at p got)))
+          ap (parts.with-wire t) (e ∙ ap (λ l. answered l p y) (sym (sought-left _ _ (sym got ∙ finds))))
           ∙ wire-answered t (remove1 (is-named k a r n) (waiting (s .wire .words) (s .wire .len))) p y (packet-room (s .wire .words) (s .wire .len) (is-named k a r n) found-it)
 
       -- the memory of the chare

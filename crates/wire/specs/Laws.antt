@@ -1,20 +1,21 @@
 -- The words of a wire as packets: how many there are, one found, one more, one less, those that stay.
 use mathlib.Core.Bool.{Bool, true, false}
 use mathlib.Core.List.{List, [], _∷_, _++_, map, append-nil}
+use mathlib.Core.Option.{Option, some, none}
 use mathlib.Core.Path.{_≡_, refl, sym, ap, _∙_}
 use Prim.Native.Nat.{ℕ, suc, zero, _+_, _<_, _≤_, min}
 use native.Mathlib.Omega.{arith}
 use native.Mathlib.Numerals.{add-one}
 use lib.ListN.{length, take, drop, set, getD, length-map, length-take, List·getD-map, drop-of-length-le}
 use lib.Seq.{take-take, take-all}
-use Rattle.lists.specs.Lists.{keep}
-use Rattle.protocol.specs.Packets.{is-named}
+use Rattle.lists.specs.Lists.{keep, find, remove1}
 use Rattle.protocol.specs.declared.Packet.{Packet}
 use Rattle.arrays.specs.Fill.{fill-put, fill-end}
 use Rattle.arrays.specs.Front.{push, within, front-length, front-at, put-at, push-room, no-room, keep-hit, keep-miss, keep-end}
 use Rattle.arrays.specs.Place.{place, place-hit, place-miss, place-end, find-at, find-no, remove-there}
 use Rattle.wire.specs.Words.{unpacked}
-use Rattle.wire.specs.View.{waiting, packets, without, found, Finds}
+use Rattle.wire.specs.View.{waiting, packets, without, found, found-at, sought}
+use Rattle.wire.specs.declared.Found.{Found}
 use Rattle.wire.specs.declared.Found.the-variants.{Nothing, At}
 use Rattle.wire.specs.declared.Wire.{Wire}
 
@@ -22,6 +23,26 @@ map-put : {A B : Type 0} (f : A → B) (l : List A) (i : ℕ) (x : A) → map f 
 map-put f [] i x = refl
 map-put f (y ∷ l) zero x = refl
 map-put f (y ∷ l) (suc i) x = ap (f y ∷_) (map-put f l i x)
+
+-- ---- what is found, and what is then left
+module _ (q : Packet → Bool) (l : List Packet) where
+  packet-of : (o : Option Packet) → found (found-at (place q l) o) ≡ o
+  unfolding found found-at
+  packet-of none = refl
+  packet-of (some p) = refl
+
+  place-of : (o : Option Packet) {i : ℕ} {p : Packet} → At i p ≡ found-at (place q l) o → i ≡ place q l
+  unfolding found-at
+  place-of none e = absurd (let z : _≡_ {A = ℕ} 0 1 = cc in omega arith)
+  place-of (some p) e = cc
+
+  pub sought-packet : {f : Found} → f ≡ sought q l → found f ≡ find q l
+  unfolding sought
+  sought-packet e = ap found e ∙ packet-of (find q l)
+
+  pub sought-left : {i : ℕ} {p : Packet} → At i p ≡ sought q l → remove1 q l ≡ without i l
+  unfolding sought without
+  sought-left e = remove-there q l ∙ rw (← place-of (find q l) e)
 
 module _ {A : Type 0} where
   -- the one after the gap moves down into it
@@ -104,20 +125,15 @@ module _ (words : List ℕ) (len : ℕ) (size : length words ≡ 128) where
     unfolding waiting
     sought-end h = place-end (map unpacked words) 128 len seen-size p i inv h
 
-  module _ (k s r n i : ℕ) (e : i ≡ place (is-named k s r n) (waiting words len)) where
-    pub finds-at : (x : Packet) → x ≡ unpacked (getD words i 0) → i < min len 128 → Finds k s r n (waiting words len) (At i x)
-    unfolding waiting found without
-    finds-at x f h = record {
-      packet = sym (find-at (map unpacked words) 128 len seen-size (is-named k s r n) i e (unpacked 0) h ∙ rw (seen-at i, f));
-      place = λ j q g. let o : i ≡ j = cc in rw (← o) (remove-there (is-named k s r n) (waiting words len) ∙ rw (← e));
-    }
+  -- it ends at i
+  module _ (p : Packet → Bool) (i : ℕ) (e : i ≡ place p (waiting words len)) where
+    pub sought-at : (x : Packet) → x ≡ unpacked (getD words i 0) → i < min len 128 → At i x ≡ sought p (waiting words len)
+    unfolding waiting sought found-at
+    sought-at x f h = rw (find-at (map unpacked words) 128 len seen-size p i e (unpacked 0) h, seen-at i, ← e, ← f)
 
-    pub finds-none : min len 128 ≤ i → Finds k s r n (waiting words len) Nothing
-    unfolding waiting found
-    finds-none h = record {
-      packet = sym (find-no (map unpacked words) 128 len seen-size (is-named k s r n) i e h);
-      place = λ j q g. absurd (let z : _≡_ {A = ℕ} 0 1 = cc in omega arith);
-    }
+    pub sought-none : min len 128 ≤ i → Nothing ≡ sought p (waiting words len)
+    unfolding waiting sought found-at
+    sought-none h = rw (find-no (map unpacked words) 128 len seen-size p i e h)
 
   -- ---- a loop that keeps some: of the first i, those that pass stand in the m first words of r
   module _ (p : Packet → Bool) (i : ℕ) (r : List ℕ) (m : ℕ) (inv : keep p (waiting words len) ≡ take m (map unpacked r) ++ keep p (drop i (waiting words len))) where

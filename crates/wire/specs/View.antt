@@ -2,13 +2,13 @@
 use mathlib.Core.Bool.{Bool, not, cond}
 use mathlib.Core.List.{List, _++_, map}
 use mathlib.Core.Option.{Option, some, none}
-use mathlib.Core.Path.{_≡_}
 use Prim.Native.Nat.{ℕ, suc, min}
 use lib.Dec.{eqb}
 use lib.ListN.{take, drop}
-use Rattle.lists.specs.Lists.{find, remove1}
+use Rattle.lists.specs.Lists.{find}
+use Rattle.arrays.specs.Place.{place}
 use Rattle.protocol.specs.Crash.{survives}
-use Rattle.protocol.specs.Packets.{is-named, goes-to}
+use Rattle.protocol.specs.Packets.{goes-to}
 use Rattle.protocol.specs.Parts.{Job}
 use Rattle.protocol.specs.declared.Packet.{Packet}
 use Rattle.wire.specs.Words.{unpacked}
@@ -31,10 +31,13 @@ unfoldable pub found : Found → Option Packet
 found Nothing = none
 found (At i p) = some p
 
--- the oldest packet of a name, and its place
-pub record Finds (k s r n : ℕ) (l : List Packet) (f : Found) : Type 0 where
-  pub packet : found f ≡ find (is-named k s r n) l
-  pub place : (i : ℕ) (p : Packet) → f ≡ At i p → remove1 (is-named k s r n) l ≡ without i l
+unfoldable pub found-at : ℕ → Option Packet → Found
+found-at i none = Nothing
+found-at i (some p) = At i p
+
+-- the oldest packet that passes a test, and its place
+unfoldable pub sought : (Packet → Bool) → List Packet → Found
+sought q l = found-at (place q l) (find q l)
 
 -- a packet stays at a crash of p, or at its restart
 unfoldable pub stays : Bool → Job → ℕ → Packet → Bool

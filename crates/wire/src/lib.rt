@@ -11,7 +11,7 @@ ghost use Rattle.protocol.specs.Packets.{kind, is-named, goes-to};
 ghost use Rattle.protocol.specs.Crash.{survives};
 ghost use Rattle.arrays.specs.Front.{push};
 ghost use Rattle.layout.specs.View.{layout-view};
-ghost use Rattle.wire.specs.View.{waiting, packets, without, Finds, stays};
+ghost use Rattle.wire.specs.View.{waiting, packets, without, sought, stays};
 ghost use Rattle.wire.specs.Words.{content-of, unpacked, Packs};
 use layout::Layout;
 use protocol::Content;
@@ -165,7 +165,7 @@ fn is_named(w: u64, k: u8, sender: u8, receiver: u8, sn: u16) -> bool
 
 // The oldest packet of a name.
 pub fn find(words: &[u64; 128], len: u8, k: u8, sender: u8, receiver: u8, sn: u16) -> Found
-    ensures { λ r. ⌜ Finds k sender receiver sn (waiting (now (words .entry)) len) r ⌝ }
+    ensures { λ r. ⌜ r ≡ sought (is-named k sender receiver sn) (waiting (now (words .entry)) len) ⌝ }
 {
     let n = counted(words, len);
     let mut i = 0;

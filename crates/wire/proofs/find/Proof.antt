@@ -6,7 +6,7 @@ use borrow.Author.Needs.{needs}
 use lib.ListN.{length, drop}
 use Rattle.arrays.specs.Place.{place, place-start}
 use Rattle.protocol.specs.Packets.{is-named}
-use Rattle.wire.specs.Laws.{sought-hit, sought-miss, sought-end, finds-at, finds-none}
+use Rattle.wire.specs.Laws.{sought-hit, sought-miss, sought-end, sought-at, sought-none}
 use Rattle.wire.specs.View.{waiting}
 use Rattle.wire.proofs.find.Statement.{statement}
 use Rattle.wire.proofs.find.Tie as tie
@@ -45,7 +45,7 @@ returns : tie.Need-returns Inv-loop μ-loop
 returns c =
     let l = c .before .before .before .before .before in
     let s = l .before .before .before .args in
-    finds-at (s .words .now) (s .len) (size (l .before)) _ _ _ _ (l .loop .i)
+    sought-at (s .words .now) (s .len) (size (l .before)) _ (l .loop .i)
     (sought-hit (s .words .now) (s .len) (size (l .before)) _ (l .loop .i) (l .loop .inv .1) (omega (arith, size (l .before))) (sym (c .before .before .is-named .ensures) ∙ c .before .if1 .taken))
     _ (c .unpack .ensures) (omega (arith, size (l .before)))
 
@@ -65,7 +65,7 @@ returns-2 : tie.Need-returns-2 Inv-loop μ-loop
 returns-2 c =
     let l = c .before in
     let s = l .before .before .before .args in
-    finds-none (s .words .now) (s .len) (size (l .before)) _ _ _ _ (l .loop .i)
+    sought-none (s .words .now) (s .len) (size (l .before)) _ (l .loop .i)
     (sought-end (s .words .now) (s .len) (size (l .before)) _ (l .loop .i) (l .loop .inv .1) (omega (arith, size (l .before)))) (omega (arith, size (l .before)))
 
 pub find-spec : {M : Type 1} → statement M
