@@ -1,6 +1,5 @@
 -- A plan carried out where the state stands: first the worker's memory, then the sends, each by the receiver's memory, the sender's and the wire.
 use mathlib.Core.Path.{_≡_, refl, sym, ap, subst, _∙_}
-use mathlib.Core.Bool.{true}
 use mathlib.Core.List.{List, [], _∷_, _++_}
 use Prim.Native.Nat.{ℕ, _+_, _<_, _≤_}
 use native.Mathlib.Omega.{arith}
@@ -26,7 +25,8 @@ use Rattle.sending.specs.declared.ticket.Ticket.{Ticket}
 use Rattle.sending.specs.Planned.{sent-all, AllReady, outgoing, PlannedFor, work-outcome}
 use Rattle.sending.specs.Sent.{ticketed, sent, Ready}
 use Rattle.sending.specs.Store.{log-kept}
-use Rattle.sending.specs.Ticket.{is-new, grows, tn-of, table-after, packets-of, logged}
+use Rattle.sending.specs.Room.{table-room, wire-room, log-room}
+use Rattle.sending.specs.Ticket.{tn-of, packets-of, to-table, to-wire, logged, to-log}
 
 -- a state with other memories and another wire
 abbrev pub with-live : State → List Memory → Wire → State
@@ -49,29 +49,29 @@ memory-put u i m w h = rw (memories-set (u .live) i m h)
 module _ (u : State) (m : Message) (k : Ticket) (size : length (u .live) ≡ 13) (a-in : m .sender < 13) (b-in : m .receiver < 13) (ready : Ready (view u) m k) where
   -- the receiver's memory becomes z
   module _ (z : Memory)
-      (takes : let y = memory-view (getD (u .live) (m .receiver) no-memory) in (is-new k ≡ true → length (y .table) < 16) → memory-view z ≡ parts.with-table y (table-after (y .table) m k)) where
+      (takes : let y = memory-view (getD (u .live) (m .receiver) no-memory) in memory-view z ≡ parts.with-table y (to-table (y .table) m k)) where
     abbrev mid : State
     mid = with-live u (set (u .live) (m .receiver) z) (u .wire)
 
     ticket-put : view mid ≡ ticketed (view u) m k
     unfolding ticketed view memories as-map
-    ticket-put = memory-put u (m .receiver) z (u .wire) (omega arith) ∙ ap (parts.with-memory (view u) (m .receiver)) (takes (ready .table-room))
+    ticket-put = memory-put u (m .receiver) z (u .wire) (omega arith) ∙ ap (parts.with-memory (view u) (m .receiver)) (takes ∙ ap (parts.with-table (view u .live (m .receiver))) (table-room _ m k (ready .table-room)))
 
     -- then the sender's becomes g
     module _ (g : Memory) (n : ℕ) (n-is : n ≡ tn-of k)
-        (logs : let x = memory-view (getD (set (u .live) (m .receiver) z) (m .sender) no-memory) in m .receiver < 13 → length (x .log) < 16 → memory-view g ≡ logged x m n) where
+        (logs : let x = memory-view (getD (set (u .live) (m .receiver) z) (m .sender) no-memory) in memory-view g ≡ to-log x m n) where
       sender-at : memory-view (getD (set (u .live) (m .receiver) z) (m .sender) no-memory) ≡ ticketed (view u) m k .live (m .sender)
       unfolding view memories as-map
       sender-at = ap (λ (o : parts.State). o .live (m .sender)) ticket-put
 
       log-put : memory-view g ≡ logged (ticketed (view u) m k .live (m .sender)) m (tn-of k)
-      log-put = rw (← sender-at, ← n-is) (logs b-in (rw (sender-at, log-kept (view u) m k (m .sender)) (ready .log-room)))
+      log-put = logs ∙ rw (sender-at, n-is) (log-room _ m (tn-of k) b-in (rw (log-kept (view u) m k (m .sender)) (ready .log-room)))
 
       -- and the wire becomes w
-      module _ (w : Wire) (packs : (grows k ≡ true → length (waiting (u .wire .words) (u .wire .len)) < 128) → waiting (w .words) (w .len) ≡ waiting (u .wire .words) (u .wire .len) ++ packets-of m k) where
+      module _ (w : Wire) (packs : waiting (w .words) (w .len) ≡ to-wire (waiting (u .wire .words) (u .wire .len)) m k) where
         wire-put : packets w ≡ ticketed (view u) m k .wire ++ packets-of m k
         unfolding ticketed view packets
-        wire-put = packs (ready .wire-room)
+        wire-put = packs ∙ wire-room _ m k (ready .wire-room)
 
         sent-put : view (with-live u (set (set (u .live) (m .receiver) z) (m .sender) g) w) ≡ sent (view u) m k
         unfolding sent
@@ -140,10 +140,10 @@ module _ (s : State) (i count : ℕ) (sends : List Outgoing) (n : ℕ) (u : Stat
   sending-to = next-ready .1
 
   pub sending-more : (z : Memory)
-      → (let y = memory-view (getD (u .live) (o .message .receiver) no-memory) in (is-new (o .ticket) ≡ true → length (y .table) < 16) → memory-view z ≡ parts.with-table y (table-after (y .table) (o .message) (o .ticket)))
+      → (let y = memory-view (getD (u .live) (o .message .receiver) no-memory) in memory-view z ≡ parts.with-table y (to-table (y .table) (o .message) (o .ticket)))
       → (g : Memory) (t : ℕ) → t ≡ tn-of (o .ticket)
-      → (let x = memory-view (getD (set (u .live) (o .message .receiver) z) i no-memory) in o .message .receiver < 13 → length (x .log) < 16 → memory-view g ≡ logged x (o .message) t)
-      → (w : Wire) → ((grows (o .ticket) ≡ true → length (waiting (u .wire .words) (u .wire .len)) < 128) → waiting (w .words) (w .len) ≡ waiting (u .wire .words) (u .wire .len) ++ packets-of (o .message) (o .ticket))
+      → (let x = memory-view (getD (set (u .live) (o .message .receiver) z) i no-memory) in memory-view g ≡ to-log x (o .message) t)
+      → (w : Wire) → waiting (w .words) (w .len) ≡ to-wire (waiting (u .wire .words) (u .wire .len)) (o .message) (o .ticket)
       → Sending s i count sends (n + 1) (with-live u (set (set (u .live) (o .message .receiver) z) i g) w)
   unfolding sent-all
   sending-more z takes g t t-is logs w packs =

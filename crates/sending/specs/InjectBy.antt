@@ -27,7 +27,8 @@ use Rattle.state.specs.declared.State.{State}
 use Rattle.state.specs.View.{memory-view, memories, view, no-memory}
 use Rattle.state.specs.Outcome.{outcome-view, tried}
 use Rattle.sending.specs.declared.ticket.Ticket.the-variants.{Remote}
-use Rattle.sending.specs.Ticket.{grows, tn-of, table-after, packets-of, message-after, logged}
+use Rattle.sending.specs.Room.{sn-room, wire-room, log-room}
+use Rattle.sending.specs.Ticket.{tn-of, table-after, packets-of, to-wire, message-after, logged, to-log}
 use Rattle.sending.specs.Sent.{sent, ticketed}
 use Rattle.sending.specs.SentLaws.{remote-sent}
 use Rattle.sending.specs.Store.{chare-index}
@@ -105,15 +106,15 @@ module _ (s : State) (len : ℕ) (size : min len 128 ≡ length (packets (s .wir
     wire-below = omega (arith, size, leb-true (min len 128 + 1) 128 (yes-by .1 .1 .1 .1 .1 .1 .1 .1 .1 .0))
 
     -- m is the message, g the desk's memory with it logged, and w the wire
-    pub inject-done : (m : Message) → (c < 13 → desk .sn c < 60000 → m ≡ message-after 0 c (desk .sn c) value hops)
-        → (g : Memory) → (m .receiver < 13 → length (desk .log) < 16 → memory-view g ≡ logged desk m 0)
-        → (w : Wire) → ((grows Remote ≡ true → length (waiting (s .wire .words) (s .wire .len)) < 128) → waiting (w .words) (w .len) ≡ waiting (s .wire .words) (s .wire .len) ++ packets-of m Remote)
+    pub inject-done : (m : Message) → m ≡ message-after 0 c (desk .sn c) value hops
+        → (g : Memory) → memory-view g ≡ to-log desk m 0
+        → (w : Wire) → waiting (w .words) (w .len) ≡ to-wire (waiting (s .wire .words) (s .wire .len)) m Remote
         → 0 < length (s .live) → outcome-view (record { state = with-live s (set (s .live) 0 g) w; answer = Accepted }) ≡ inject-outcome s c value hops
     unfolding outcome-view tried next-message view memories as-map packets
     inject-done m m-is g logs w packs here =
-        let e = m-is chare-in sn-below in
-        let a = logs (rw e chare-in) log-below in
-        let b = packs (λ f. wire-below) in
+        let e : m ≡ next-message (view s) 0 c value hops = m-is ∙ rw (sn-room (desk .sn c) sn-below) in
+        let a = logs ∙ log-room desk m 0 (rw m-is chare-in) log-below in
+        let b = packs ∙ wire-room _ m Remote (λ f. wire-below) in
         let v = memory-put s 0 g w here in
         rw (judged-yes (view s) 1 (inject-questions (view s) c value hops) _ (sym said ∙ none), remote-sent (view s) 0 c value hops (desk-remote (view s) c), only-logged (view s) (next-message (view s) 0 c value hops), ← e)
         (ap (λ (o : parts.State). record { state = o; answer = Accepted }) (v ∙ rw (a, b)))

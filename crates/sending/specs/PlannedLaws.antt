@@ -27,6 +27,7 @@ use Rattle.sending.specs.AfterLaws.{sn-after}
 use Rattle.sending.specs.Plan.{last-after}
 use Rattle.sending.specs.Planned.{sent-all, AllReady, outgoing, Done, PlannedFor, Only, SeesWork, Around}
 use Rattle.sending.specs.Sendable.{Sendable, sn-low, is-sent, ready}
+use Rattle.sending.specs.Room.{sn-room}
 use Rattle.sending.specs.Ticket.{message-after}
 
 -- ---- no sends
@@ -74,30 +75,28 @@ module _ (s : parts.State) (x : parts.Memory) (a b v h : ℕ) where
   first-low : {k : Ticket} → Sendable (with-memory s a x) a b v h k → x .sn b < 60000
   first-low q = rw own-sn at (sn-low q)
 
-  first-message : message-after a b (x .sn b) v h ≡ next-message (with-memory s a x) a b v h
+  first-message : x .sn b < 60000 → message-after a b (x .sn b) v h ≡ next-message (with-memory s a x) a b v h
   unfolding next-message
-  first-message = rw own-sn
+  first-message low = rw (sn-room (x .sn b) low, own-sn)
 
   module _ {k : Ticket} (q : Sendable (with-memory s a x) a b v h k) (d : ℕ) where
     second-sn : send (with-memory s a x) a b v h .live a .sn d ≡ last-after (eqb d b) (x .sn b) (x .sn d)
     unfolding last-after next-message upd
     second-sn = rw (is-sent q, sn-after (with-memory s a x) (next-message (with-memory s a x) a b v h) k, own-sn)
 
-    second-message : message-after a d (last-after (eqb d b) (x .sn b) (x .sn d)) v h ≡ next-message (send (with-memory s a x) a b v h) a d v h
+    second-message : {j : Ticket} → Sendable (send (with-memory s a x) a b v h) a d v h j
+        → message-after a d (last-after (eqb d b) (x .sn b) (x .sn d)) v h ≡ next-message (send (with-memory s a x) a b v h) a d v h
     unfolding next-message
-    second-message = rw second-sn
-
-    second-low : {j : Ticket} → Sendable (send (with-memory s a x) a b v h) a d v h j → last-after (eqb d b) (x .sn b) (x .sn d) < 60000
-    second-low p = rw second-sn at (sn-low p)
+    second-message p = rw (sn-room (last-after (eqb d b) (x .sn b) (x .sn d)) (rw second-sn at (sn-low p)), second-sn)
 
 -- ---- the plans of them: x is the memory, m the message, k its ticket
 module _ (s : parts.State) (x : Memory) (a b v h : ℕ) (a-in : a < 13) (b-in : b < 13) {k : Ticket} (q : Sendable (with-memory s a (memory-view x)) a b v h k)
-    (m : Message) (m-is : b < 13 → memory-view x .sn b < 60000 → m ≡ message-after a b (memory-view x .sn b) v h) where
+    (m : Message) (m-is : m ≡ message-after a b (memory-view x .sn b) v h) where
   abbrev w : parts.State
   w = with-memory s a (memory-view x)
 
   m-next : m ≡ next-message w a b v h
-  m-next = m-is b-in (first-low s (memory-view x) a b v h q) ∙ first-message s (memory-view x) a b v h
+  m-next = m-is ∙ first-message s (memory-view x) a b v h (first-low s (memory-view x) a b v h q)
 
   pub one-planned : (o : Outcome) → o ≡ record { state = send-all w a (b ∷ []) v h; answer = Accepted }
       → (r : Planned) → r .no ≡ 0 → r .memory ≡ x → r .count ≡ 1 → outgoing r ≡ record { message = m; ticket = k } ∷ [] → PlannedFor s a o r
@@ -111,11 +110,11 @@ module _ (s : parts.State) (x : Memory) (a b v h : ℕ) (a-in : a < 13) (b-in : 
 
   -- and then n, to d, after the SN l
   module _ (d : ℕ) (d-in : d < 13) {j : Ticket} (p : Sendable (send w a b v h) a d v h j)
-      (l : ℕ) (l-is : memory-view x .sn b < 60000 → l ≡ last-after (eqb d b) (memory-view x .sn b) (memory-view x .sn d)) (n : Message) (n-is : l < 60000 → n ≡ message-after a d l v h) where
+      (l : ℕ) (l-is : memory-view x .sn b < 60000 → l ≡ last-after (eqb d b) (memory-view x .sn b) (memory-view x .sn d)) (n : Message) (n-is : n ≡ message-after a d l v h) where
     n-next : n ≡ next-message (send w a b v h) a d v h
     n-next =
         let e = l-is (first-low s (memory-view x) a b v h q) in
-        n-is (rw e (second-low s (memory-view x) a b v h q d p)) ∙ rw e (second-message s (memory-view x) a b v h q d)
+        n-is ∙ rw e (second-message s (memory-view x) a b v h q d p)
 
     pub two-planned : (o : Outcome) → o ≡ record { state = send-all w a (b ∷ d ∷ []) v h; answer = Accepted }
         → (r : Planned) → r .no ≡ 0 → r .memory ≡ x → r .count ≡ 2 → outgoing r ≡ record { message = m; ticket = k } ∷ record { message = n; ticket = j } ∷ [] → PlannedFor s a o r

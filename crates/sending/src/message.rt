@@ -1,13 +1,9 @@
 // A sender's next message, and what it leaves of the sender's log and the wire.
 ghost use mathlib.Core.Path.{_≡_};
-ghost use mathlib.Core.Bool.{true};
-ghost use mathlib.Core.List.{_++_};
-ghost use Prim.Native.Nat.{_<_};
-ghost use lib.ListN.{length};
 ghost use Rattle.protocol.specs.Sending.{about};
 ghost use Rattle.wire.specs.View.{waiting};
 ghost use Rattle.state.specs.View.{memory-view};
-ghost use Rattle.sending.specs.Ticket.{grows, packets-of, message-after, logged};
+ghost use Rattle.sending.specs.Ticket.{to-wire, message-after, to-log};
 use crate::ticket::Ticket;
 use protocol::Content;
 use protocol::Logged;
@@ -17,7 +13,7 @@ use state::Memory;
 
 // The message after the SN `last`. None passes 60,000.
 pub(crate) fn message_after(sender: u8, receiver: u8, last: u16, value: u16, hops: u8) -> Message
-    ensures { λ r. ⌜ (last < 60000 → r ≡ message-after sender receiver last value hops) ⌝ }
+    ensures { λ r. ⌜ r ≡ message-after sender receiver last value hops ⌝ }
 {
     let sn = if last < 60000 { last + 1 } else { last };
     Message {
@@ -31,7 +27,7 @@ pub(crate) fn message_after(sender: u8, receiver: u8, last: u16, value: u16, hop
 
 // The next message of a sender with the memory x.
 pub fn next_message(x: Memory, sender: u8, receiver: u8, value: u16, hops: u8) -> Message
-    ensures { λ r. ⌜ (receiver < 13 → memory-view x .sn receiver < 60000 → r ≡ message-after sender receiver (memory-view x .sn receiver) value hops) ⌝ }
+    ensures { λ r. ⌜ r ≡ message-after sender receiver (memory-view x .sn receiver) value hops ⌝ }
 {
     if 12 < receiver {
         return message_after(sender, receiver, 0, value, hops);
@@ -42,7 +38,7 @@ pub fn next_message(x: Memory, sender: u8, receiver: u8, value: u16, hops: u8) -
 
 // The sender's memory.
 pub fn log_message(x: Memory, m: Message, tn: u16) -> Memory
-    ensures { λ r. ⌜ (m .receiver < 13 → length (memory-view x .log) < 16 → memory-view r ≡ logged (memory-view x) m tn) ⌝ }
+    ensures { λ r. ⌜ memory-view r ≡ to-log (memory-view x) m tn ⌝ }
 {
     if 12 < m.receiver {
         return x;
@@ -70,7 +66,7 @@ fn about(m: Message, content: Content) -> Packet
 
 // Puts what a send gives on the wire. How many packets there are then.
 pub fn put(words: &mut [u64; 128], len: u8, m: Message, k: Ticket) -> u8
-    ensures { λ r. ⌜ ((grows k ≡ true → length (waiting (now (words .entry)) len) < 128) → waiting (now (words .exit)) r ≡ waiting (now (words .entry)) len ++ packets-of m k) ⌝ }
+    ensures { λ r. ⌜ waiting (now (words .exit)) r ≡ to-wire (waiting (now (words .entry)) len) m k ⌝ }
 {
     match k {
         Ticket::Remote => wire::join(words, len, about(m, Content::Ask)),

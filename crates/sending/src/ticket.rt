@@ -1,12 +1,9 @@
 // How a message that is sent gets its ticket, and what it leaves of the receiver's table.
 ghost use mathlib.Core.Path.{_≡_};
-ghost use mathlib.Core.Bool.{true};
-ghost use Prim.Native.Nat.{_<_};
-ghost use lib.ListN.{length};
 ghost use Rattle.protocol.specs.Parts.{with-table};
 ghost use Rattle.table.specs.Table.{entries};
 ghost use Rattle.state.specs.View.{memory-view};
-ghost use Rattle.sending.specs.Ticket.{fits, is-new, growth, tn-of, table-after};
+ghost use Rattle.sending.specs.Ticket.{fits, growth, tn-of, to-table};
 use protocol::Entry;
 use protocol::Message;
 use state::Memory;
@@ -55,7 +52,7 @@ pub fn tn_of(k: Ticket) -> u16
 }
 
 fn table_after(t: Table, m: Message, k: Ticket) -> Table
-    ensures { λ r. ⌜ ((is-new k ≡ true → length (entries t) < 16) → entries r ≡ table-after (entries t) m k) ⌝ }
+    ensures { λ r. ⌜ entries r ≡ to-table (entries t) m k ⌝ }
 {
     match k {
         Ticket::Remote => t,
@@ -78,7 +75,7 @@ fn table_after(t: Table, m: Message, k: Ticket) -> Table
 
 // The receiver's memory.
 pub fn take_ticket(y: Memory, m: Message, k: Ticket) -> Memory
-    ensures { λ r. ⌜ ((is-new k ≡ true → length (memory-view y .table) < 16) → memory-view r ≡ with-table (memory-view y) (table-after (memory-view y .table) m k)) ⌝ }
+    ensures { λ r. ⌜ memory-view r ≡ with-table (memory-view y) (to-table (memory-view y .table) m k) ⌝ }
 {
     let t = y.table;
     let u = table_after(t, m, k);

@@ -1,7 +1,5 @@
-use mathlib.Core.List.{append-nil}
-use mathlib.Core.Path.{sym, ap, _∙_}
-use Rattle.arrays.specs.Front.{push-fits}
-use Rattle.sending.specs.Ticket.{packets-of, grows}
+use mathlib.Core.Path.{_∙_}
+use Rattle.sending.specs.Ticket.{to-wire}
 use borrow.Author.Needs.{needs}
 use Rattle.sending.proofs.message.put.Statement.{statement}
 use Rattle.sending.proofs.message.put.Tie as tie
@@ -31,24 +29,20 @@ enum-told-3 : tie.Need-enum-told-3
 enum-told-3 c = search needs
 
 returns : tie.Need-returns
-unfolding packets-of grows
-returns c room =
-    let e = c .before .before .before .enum-told .given .1 in
-    c .join .ensures ∙ push-fits 128 _ _ (room (ap grows e)) ∙ rw (c .before .about .ensures, e)
+unfolding to-wire
+returns c = c .join .ensures ∙ rw (c .before .about .ensures, c .before .before .before .enum-told .given .1)
 
 returns-2 : tie.Need-returns-2
-unfolding packets-of
-returns-2 c room = rw (c .enum-told2 .given .1) (sym (append-nil _))
+unfolding to-wire
+returns-2 c = rw (c .enum-told2 .given .1)
 
 returns-3 : tie.Need-returns-3
-unfolding packets-of grows
-returns-3 c room =
-    let e = c .before .before .before .before .k .given .1 in
-    c .join2 .ensures ∙ push-fits 128 _ _ (room (ap grows e)) ∙ rw (c .before .about2 .ensures, e)
+unfolding to-wire
+returns-3 c = c .join2 .ensures ∙ rw (c .before .about2 .ensures, c .before .before .before .before .k .given .1)
 
 returns-4 : tie.Need-returns-4
-unfolding packets-of
-returns-4 c room = rw (c .enum-told3 .given .1) (sym (append-nil _))
+unfolding to-wire
+returns-4 c = rw (c .enum-told3 .given .1)
 
 pub put-spec : {M : Type 1} → statement M
 put-spec =

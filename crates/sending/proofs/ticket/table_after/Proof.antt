@@ -1,8 +1,7 @@
 use mathlib.Core.Path.{sym, ap, _∙_}
-use Rattle.arrays.specs.Front.{push-fits}
 use Rattle.table.specs.Table.{entries}
 use Rattle.protocol.specs.Sending.{local-entry}
-use Rattle.sending.specs.Ticket.{table-after, is-new}
+use Rattle.sending.specs.Ticket.{to-table}
 use borrow.Author.Needs.{needs}
 use Rattle.sending.proofs.ticket.table_after.Statement.{statement}
 use Rattle.sending.proofs.ticket.table_after.Tie as tie
@@ -26,23 +25,23 @@ enum-told-3 : tie.Need-enum-told-3
 enum-told-3 c = search needs
 
 returns : tie.Need-returns
-unfolding table-after
-returns c room = let a = c .before .before .args in sym (ap (table-after (entries (a .t)) (a .m)) (c .enum-told .given .1))
+unfolding to-table
+returns c = let a = c .before .before .args in sym (ap (to-table (entries (a .t)) (a .m)) (c .enum-told .given .1))
 
 returns-2 : tie.Need-returns-2
-unfolding table-after
-returns-2 c room = let a = c .before .before .before .args in c .fill .ensures ∙ sym (ap (table-after (entries (a .t)) (a .m)) (c .before .enum-told2 .given .1))
+unfolding to-table
+returns-2 c = let a = c .before .before .before .args in c .fill .ensures ∙ sym (ap (to-table (entries (a .t)) (a .m)) (c .before .enum-told2 .given .1))
 
 returns-3 : tie.Need-returns-3
-unfolding table-after is-new local-entry
-returns-3 c room =
+unfolding to-table local-entry
+returns-3 c =
     let a = c .before .before .before .before .args in
     let e = c .before .before .k .given .1 in
-    c .push .ensures ∙ push-fits 16 (entries (a .t)) _ (room (ap is-new e)) ∙ sym (ap (table-after (entries (a .t)) (a .m)) e)
+    c .push .ensures ∙ sym (ap (to-table (entries (a .t)) (a .m)) e)
 
 returns-4 : tie.Need-returns-4
-unfolding table-after
-returns-4 c room = let a = c .before .before .args in sym (ap (table-after (entries (a .t)) (a .m)) (c .enum-told3 .given .1))
+unfolding to-table
+returns-4 c = let a = c .before .before .args in sym (ap (to-table (entries (a .t)) (a .m)) (c .enum-told3 .given .1))
 
 pub table-after-spec : {M : Type 1} → statement M
 table-after-spec =

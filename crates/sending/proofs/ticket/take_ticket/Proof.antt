@@ -10,7 +10,7 @@ table-after-requires c κs = search needs
 
 returns : tie.Need-returns
 unfolding memory-view
-returns c room = ap (λ l. with-table (memory-view (c .before .before .args .y)) l) (c .table-after .ensures room)
+returns c = ap (λ l. with-table (memory-view (c .before .before .args .y)) l) (c .table-after .ensures)
 
 pub take-ticket-spec : {M : Type 1} → statement M
 take-ticket-spec = tie.close (tie.spec table-after-requires returns)
