@@ -1,6 +1,6 @@
 -- The frame that the reader answers decides the step: what its crate gives, and then what settles.
 use mathlib.Core.Path.{_≡_, refl, sym, ap, _∙_}
-use mathlib.Core.Option.{Option, some, none}
+use mathlib.Core.Option.{some, none}
 use Rattle.lists.specs.Questions.{asks}
 use Rattle.protocol.specs.declared.Answer.the-variants.{Refused}
 use Rattle.protocol.specs.Parts as parts

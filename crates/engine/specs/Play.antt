@@ -4,7 +4,7 @@ use mathlib.Core.Bool.{Bool, true, false, cond, not, _&&_}
 use mathlib.Core.List.{List, [], _∷_}
 use mathlib.Core.Option.{Option, some, none}
 use Prim.Native.Nat.{ℕ, suc}
-use borrow.Author.Tests.{not-true, not-false}
+use borrow.Author.Tests.{not-false}
 use Rattle.lists.specs.Lists.{allb}
 use Rattle.lists.specs.Tests.{either, and-l}
 use Rattle.lists.specs.Questions.{asks}
@@ -22,9 +22,9 @@ use Rattle.protocol.specs.Checkpoint as checkpoints
 use Rattle.protocol.specs.Crash as crashes
 use Rattle.protocol.specs.Restart as restarts
 use Rattle.protocol.specs.Job.{begin}
-use Rattle.protocol.specs.Frames.{Line, Frame, job, inject, deliver, work, checkpoint, crash, restart, show, frame}
+use Rattle.protocol.specs.Frames.{job, inject, deliver, work, checkpoint, crash, restart, show}
 use Rattle.protocol.specs.Questions as questions
-use Rattle.protocol.specs.Step.{Outcome, accept, crash-outcome, deliver-outcome, work-outcome, outcome, judged, play, step-frame, step}
+use Rattle.protocol.specs.Step.{Outcome, accept, crash-outcome, deliver-outcome, work-outcome, outcome, judged, play}
 use Rattle.state.specs.Outcome.{tried}
 use Rattle.machines.specs.Settle.{calm}
 use Rattle.machines.specs.SettleLaws.{settle-calm}

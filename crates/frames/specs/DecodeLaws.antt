@@ -2,7 +2,7 @@
 use mathlib.Core.Bool.{Bool, true, false, cond, _&&_}
 use mathlib.Core.List.{List, [], _∷_}
 use mathlib.Core.Option.{Option, some, none}
-use mathlib.Core.Path.{_≡_, refl, sym, _∙_}
+use mathlib.Core.Path.{_≡_, refl, _∙_}
 use Prim.Native.Nat.{ℕ, zero, suc, _+_, _*_, _<_, _≤_, _/_, _%_}
 use native.Mathlib.Omega.{arith}
 use lib.Dec.{eqb}
@@ -49,11 +49,3 @@ bytes-decoded (x ∷ []) = refl
 bytes-decoded (x ∷ y ∷ l) =
     let e : suc (suc (length l)) % 2 ≡ length l % 2 = omega arith in
     rw (bytes-decoded l, e) (bytes-pair (digit x) (digit y) (eqb (length l % 2) 0) (allb is-digit l) (decoded l))
-
--- where the rule book has bytes, these are they
-pub decoded-bytes : (l : Line) {b : List ℕ} → bytes l ≡ some b → decoded l ≡ b
-decoded-bytes l {b} e = go (is-hexadecimal l) (sym (bytes-decoded l) ∙ e)
-  where
-    go : (h : Bool) → cond h (some (decoded l)) none ≡ some b → decoded l ≡ b
-    go true q = cc
-    go false q = absurd (let z : _≡_ {A = ℕ} 0 1 = cc in omega arith)

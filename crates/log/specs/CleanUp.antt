@@ -1,5 +1,5 @@
 -- The test of the clean-up at a checkpoint: against the rule book's, and by the arrays that the code reads.
-use mathlib.Core.Path.{_≡_, refl, sym, _∙_, fun-ext}
+use mathlib.Core.Path.{_≡_, refl, sym, _∙_}
 use mathlib.Core.Bool.{Bool, true, false, not}
 use mathlib.Core.Logic.{inl, inr}
 use mathlib.Core.List.{List}
@@ -15,20 +15,10 @@ use Rattle.protocol.specs.Parts.{State, on}
 use Rattle.protocol.specs.Checkpoint.{stays}
 use Rattle.log.specs.Log.{is-kept}
 
--- the heights count only where messages drop
-pub is-kept-ext : (d e : ℕ → Bool) (f g : ℕ → ℕ) → ((c : ℕ) → d c ≡ e c) → ((c : ℕ) → e c ≡ true → f c ≡ g c) → is-kept d f ≡ is-kept e g
-unfolding is-kept
-is-kept-ext d e f g same high = fun-ext (λ x. let r = x .message .receiver in rw (same r) (either (e r) (λ q. rw (q, high r q)) (λ q. rw q)))
-
 -- the test of a checkpoint of p
 pub stays-is-kept : (s : State) (p : ℕ) → stays s p ≡ is-kept (on (s .job) p) (λ c. s .live c .height)
 unfolding stays is-kept
 stays-is-kept s p = refl
-
--- the arrays for machine p
-pub cleans : (s : State) (p : ℕ) (drops : ℕ → Bool) (heights : ℕ → ℕ) → ((c : ℕ) → drops c ≡ on (s .job) p c)
-    → ((c : ℕ) → on (s .job) p c ≡ true → heights c ≡ s .live c .height) → is-kept drops heights ≡ stays s p
-cleans s p drops heights same high = is-kept-ext drops (on (s .job) p) heights (λ c. s .live c .height) same high ∙ sym (stays-is-kept s p)
 
 not-below : (a b : ℕ) → leb b a ≡ not (ltb a b)
 not-below a b = elim (lt? a b) [ inl h ↦ rw (lt-leb b a h, lt-ltb a b h) | inr h ↦ rw (le-leb b a h, le-ltb a b h) ]

@@ -1,6 +1,5 @@
 -- What stands past the ends of the arrays, and arrays of one element repeated.
 use mathlib.Core.Path.{_≡_, refl, sym, ap, _∙_, fun-ext}
-use mathlib.Core.Bool.{false}
 use mathlib.Core.List.{List, []}
 use Prim.Native.Nat.{ℕ, zero, suc, _≤_}
 use lib.ListN.{length, getD, replicate}
@@ -11,7 +10,7 @@ use Rattle.window.specs.BitLaws.{no-bits}
 use Rattle.notes.specs.declared.Notes.{Notes}
 use Rattle.state.specs.declared.Memory.{Memory}
 use Rattle.state.specs.declared.Machine.{Machine}
-use Rattle.state.specs.View.{memory-view, no-memory, no-machine, no-notes, memories, statuses, helds, note-lists}
+use Rattle.state.specs.View.{memory-view, no-memory, no-machine, no-notes, memories, statuses, note-lists}
 use Rattle.log.specs.Log as log
 use Rattle.table.specs.Table as table
 use Rattle.notes.specs.View as notes
@@ -31,14 +30,6 @@ memories-beyond l c h = ap memory-view (map-beyond no-memory l c h) ∙ no-memor
 pub statuses-beyond : (l : List Machine) (p : ℕ) → length l ≤ p → statuses l p ≡ Up
 unfolding statuses
 statuses-beyond l p h = ap (λ (m : Machine). m .status) (map-beyond no-machine l p h)
-
-pub helds-beyond : (l : List Machine) (p : ℕ) → length l ≤ p → helds l p ≡ false
-unfolding helds
-helds-beyond l p h = ap (λ (m : Machine). m .held) (map-beyond no-machine l p h)
-
-pub note-lists-beyond : (l : List Notes) (p : ℕ) → length l ≤ p → note-lists l p ≡ []
-unfolding note-lists notes.noted
-note-lists-beyond l p h = ap notes.noted (map-beyond no-notes l p h)
 
 -- ---- one element repeated, as good as what stands past the end
 alike : {A B : Type 0} (f : A → B) (d x : A) → f x ≡ f d → (n i : ℕ) → f (as-map d (replicate n x) i) ≡ f d

@@ -22,10 +22,11 @@ use Rattle.state.specs.View.{memory-view, memories, view, no-memory}
 use Rattle.sending.specs.declared.Outgoing.{Outgoing}
 use Rattle.sending.specs.declared.Planned.{Planned}
 use Rattle.sending.specs.declared.ticket.Ticket.{Ticket}
-use Rattle.sending.specs.Planned.{sent-all, AllReady, outgoing, PlannedFor, work-outcome}
+use Rattle.sending.specs.Planned.{sent-all, AllReady, PlannedFor, work-outcome}
 use Rattle.sending.specs.Sent.{ticketed, sent, Ready}
 use Rattle.sending.specs.Store.{log-kept}
 use Rattle.sending.specs.Room.{table-room, wire-room, log-room}
+use Rattle.sending.specs.WorkPlan.{outgoing}
 use Rattle.sending.specs.Ticket.{tn-of, packets-of, to-table, to-wire, logged, to-log}
 
 -- a state with other memories and another wire

@@ -5,7 +5,8 @@ use mathlib.Core.List.{List, [], _∷_}
 use Prim.Native.Nat.{ℕ, _+_}
 use lib.Dec.{ltb, leb}
 use lib.ListN.{length, length-append}
-use Rattle.protocol.specs.Parts.{State}
+use Rattle.protocol.specs.Frames.{between}
+use Rattle.protocol.specs.Parts.{State, Job, Memory}
 use Rattle.protocol.specs.Sending.{is-local, send}
 use Rattle.protocol.specs.Questions.{inject-questions, is-chare, numbers-fit, window-admits, log-has-room, table-has-room, takes-ticket, wire-fits, sn-to-send}
 use Rattle.sending.specs.SentLaws.{remote-sent}
@@ -18,6 +19,21 @@ pub desk-remote : (s : State) (b : ℕ) → is-local (s .job) 0 b ≡ false
 unfolding is-local
 desk-remote s b = refl
 
+-- ---- the questions by the parts that they read: m is the desk's memory, and wire the count of the packets
+-- 7 to 11
+unfoldable pub room-by : Memory → ℕ → ℕ → List Bool
+room-by m wire c =
+    leb (m .sn c + 1) 60000
+    ∷ true
+    ∷ ltb (length (m .log)) 16
+    ∷ true
+    ∷ leb (wire + 1) 128
+    ∷ []
+
+-- 2 to 11
+unfoldable pub asked-by : Job → Bool → Memory → ℕ → ℕ → ℕ → List Bool
+asked-by j lost m wire c hops = j .set ∷ (between 1 (j .chares) c && leb hops 7) ∷ not lost ∷ true ∷ true ∷ room-by m wire c
+
 module _ (s : State) (c value hops : ℕ) where
   no-ticket : takes-ticket s 0 c ≡ false
   unfolding takes-ticket is-local
@@ -27,16 +43,6 @@ module _ (s : State) (c value hops : ℕ) where
   unfolding sent ticketed packets-of
   one-more = ap (λ t. length (t .wire)) (remote-sent s 0 c value hops (desk-remote s c)) ∙ length-append (s .wire) _
 
-  -- 7 to 11
-  unfoldable pub desk-room : List Bool
-  desk-room =
-      leb (s .live 0 .sn c + 1) 60000
-      ∷ true
-      ∷ ltb (length (s .live 0 .log)) 16
-      ∷ true
-      ∷ leb (length (s .wire) + 1) 128
-      ∷ []
-
-  pub desk-asked : inject-questions s c value hops ≡ s .job .set ∷ (is-chare s c && leb hops 7) ∷ not (s .lost) ∷ true ∷ true ∷ desk-room
-  unfolding inject-questions desk-room numbers-fit window-admits log-has-room table-has-room wire-fits sn-to-send
+  pub desk-asked : inject-questions s c value hops ≡ asked-by (s .job) (s .lost) (s .live 0) (length (s .wire)) c hops
+  unfolding asked-by room-by inject-questions is-chare numbers-fit window-admits log-has-room table-has-room wire-fits sn-to-send
   desk-asked = rw (one-more, no-ticket, and-true (leb (s .live 0 .sn c + 1) 60000))

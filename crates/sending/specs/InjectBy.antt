@@ -1,11 +1,10 @@
--- Frame 10 by the parts of a state that it reads and changes: the questions put to them, and the desk's message sent where the state stands.
-use mathlib.Core.Path.{_≡_, refl, sym, ap, _∙_}
-use mathlib.Core.Bool.{Bool, true, not, _&&_}
-use mathlib.Core.List.{List, [], _∷_, _++_}
+-- Frame 10 by the parts of a state: the questions put to them, and the desk's message sent where the state stands.
+use mathlib.Core.Path.{_≡_, sym, ap, _∙_}
+use mathlib.Core.List.{_++_}
 use Prim.Native.Nat.{ℕ, _+_, _<_, min}
 use native.Mathlib.Omega.{arith}
 use borrow.Author.Tests.{leb-true, ltb-true}
-use lib.Dec.{ltb, leb}
+use lib.Dec.{leb}
 use lib.ListN.{length, getD, set}
 use Rattle.lists.specs.Tests.{and-l}
 use Rattle.lists.specs.Questions.{Yes}
@@ -17,8 +16,7 @@ use Rattle.protocol.specs.Parts as parts
 use Rattle.protocol.specs.Frames.{between}
 use Rattle.protocol.specs.Sending.{send, next-message}
 use Rattle.protocol.specs.Step.{Outcome}
-use Rattle.protocol.specs.Questions.{inject-questions, is-chare}
-use Rattle.layout.specs.declared.Layout.{Layout}
+use Rattle.protocol.specs.Questions.{inject-questions}
 use Rattle.layout.specs.View.{layout-view}
 use Rattle.wire.specs.declared.Wire.{Wire}
 use Rattle.wire.specs.View.{waiting, packets}
@@ -32,40 +30,12 @@ use Rattle.sending.specs.Ticket.{tn-of, table-after, packets-of, to-wire
 use Rattle.sending.specs.Sent.{sent, ticketed}
 use Rattle.sending.specs.SentLaws.{remote-sent}
 use Rattle.sending.specs.Store.{chare-index}
-use Rattle.sending.specs.Inject.{desk-room, desk-asked, desk-remote}
+use Rattle.sending.specs.Inject.{room-by, asked-by, desk-asked, desk-remote}
 use Rattle.sending.specs.InPlace.{with-live, memory-put}
 use Rattle.sending.specs.Verdict.{verdict, all-yes, judged-no, judged-yes}
 
 abbrev pub inject-outcome : State → ℕ → ℕ → ℕ → Outcome
 inject-outcome s c value hops = tried (view s) (inject-questions (view s) c value hops) (send (view s) 0 c value hops)
-
--- ---- the questions
--- m is the desk's memory, and len the count of the wire
-unfoldable pub JudgesInject : Layout → Bool → Memory → ℕ → ℕ → ℕ → ℕ → Type 0
-JudgesInject l b m len c hops n =
-    (s : State) → s .layout ≡ l → s .lost ≡ b → getD (s .live) 0 no-memory ≡ m → min len 128 ≡ length (packets (s .wire))
-    → (value : ℕ) → n ≡ verdict 2 (inject-questions (view s) c value hops)
-
--- 7 to 11
-unfoldable pub room-by : Memory → ℕ → ℕ → List Bool
-room-by m len c =
-    leb (memory-view m .sn c + 1) 60000
-    ∷ true
-    ∷ ltb (length (memory-view m .log)) 16
-    ∷ true
-    ∷ leb (min len 128 + 1) 128
-    ∷ []
-
-unfoldable pub asked-by : Layout → Bool → Memory → ℕ → ℕ → ℕ → List Bool
-asked-by l b m len c hops = layout-view l .set ∷ (between 1 (layout-view l .chares) c && leb hops 7) ∷ not b ∷ true ∷ true ∷ room-by m len c
-
-asked : (s : State) (len : ℕ) → min len 128 ≡ length (packets (s .wire)) → (c value hops : ℕ) → inject-questions (view s) c value hops ≡ asked-by (s .layout) (s .lost) (getD (s .live) 0 no-memory) len c hops
-unfolding asked-by room-by desk-room is-chare view memories as-map
-asked s len size c value hops = rw (desk-asked (view s) c value hops, size)
-
-pub judges : (l : Layout) (b : Bool) (m : Memory) (len c hops n : ℕ) → n ≡ verdict 2 (asked-by l b m len c hops) → JudgesInject l b m len c hops n
-unfolding JudgesInject
-judges l b m len c hops n e s f g h size value = e ∙ rw (asked s len size c value hops, f, g, h)
 
 -- ---- the message sent
 -- the ticket comes later: the log and the wire alone change
@@ -73,21 +43,22 @@ only-logged : (s : parts.State) (x : Message) → sent s x Remote ≡ parts.with
 unfolding sent ticketed tn-of table-after
 only-logged s x = rw (upd-self (x .receiver) (s .live))
 
-module _ (s : State) (len : ℕ) (size : min len 128 ≡ length (packets (s .wire))) (c value hops n : ℕ) (j : JudgesInject (s .layout) (s .lost) (getD (s .live) 0 no-memory) len c hops n) where
+module _ (s : State) (len : ℕ) (size : min len 128 ≡ length (packets (s .wire))) (c value hops n : ℕ)
+    (j : n ≡ verdict 2 (asked-by (layout-view (s .layout)) (s .lost) (memory-view (getD (s .live) 0 no-memory)) (min len 128) c hops)) where
   abbrev desk : parts.Memory
   desk = memory-view (getD (s .live) 0 no-memory)
 
   said : n ≡ verdict 2 (inject-questions (view s) c value hops)
-  unfolding JudgesInject
-  said = j s refl refl refl size value
+  unfolding view memories as-map
+  said = j ∙ rw (desk-asked (view s) c value hops, size)
 
   pub inject-refused : (n ≡ 0 → ⊥) → outcome-view (record { state = s; answer = Refused n }) ≡ inject-outcome s c value hops
   unfolding outcome-view tried
   inject-refused f = rw (judged-no (view s) 2 (inject-questions (view s) c value hops) _ (rw said at f), said)
 
   module _ (none : n ≡ 0) where
-    yes-by : Yes (asked-by (s .layout) (s .lost) (getD (s .live) 0 no-memory) len c hops)
-    yes-by = all-yes 1 _ (ap (verdict 2) (sym (asked s len size c value hops)) ∙ sym said ∙ none)
+    yes-by : Yes (asked-by (layout-view (s .layout)) (s .lost) desk (min len 128) c hops)
+    yes-by = all-yes 1 _ (sym j ∙ none)
 
     chare-in : c < 13
     unfolding asked-by

@@ -21,7 +21,8 @@ pub mod WorkLaws
 pub mod NextEntry
 pub mod PlacedView
 pub mod EntryWorked
-pub mod Bare
+pub mod WorkPlan
+pub mod PlanSteps
 pub mod Planned
 pub mod PlannedLaws
 pub mod Places

@@ -1,17 +1,14 @@
 -- The sends of a chare a whose memory is to be x: judged by x and the receivers' memories before it is put into the state.
-use mathlib.Core.Path.{_≡_, refl, ap}
-use mathlib.Core.Bool.{true, cond}
-use Prim.Native.Nat.{ℕ, _<_}
-use borrow.Author.Tests.{ltb-true}
-use lib.Dec.{eqb, ltb}
-use Rattle.lists.specs.Tests.{either, true-not-false}
+use mathlib.Core.Path.{_≡_, ap}
+use mathlib.Core.Bool.{cond}
+use Prim.Native.Nat.{ℕ}
+use lib.Dec.{eqb}
 use Rattle.lists.specs.Map.{upd, upd-same}
 use Rattle.protocol.specs.Parts.{State, Job, Memory, with-memory}
 use Rattle.protocol.specs.Sending.{is-local}
 use Rattle.sending.specs.declared.ticket.Ticket.{Ticket}
 use Rattle.sending.specs.declared.plan.Plan.{Plan}
-use Rattle.sending.specs.Ticket.{fits}
-use Rattle.sending.specs.Plan.{idle, plan-for, plan-on, plan-next, plan-of, plan-after}
+use Rattle.sending.specs.Plan.{plan-on, plan-next, plan-of, plan-after}
 
 -- y is what b holds before x is put there
 unfoldable pub first-plan : Job → Memory → Memory → ℕ → ℕ → Plan
@@ -19,11 +16,6 @@ first-plan j x y a b = plan-on (is-local j a b) x (cond (eqb b a) x y) a b
 
 unfoldable pub second-plan : Job → Memory → Memory → ℕ → ℕ → Ticket → ℕ → Plan
 second-plan j x z a b k d = plan-next (is-local j a d) x (cond (eqb d a) x z) a b k d
-
--- what fits has a low SN
-pub fits-low : (j : Job) (x y : Memory) (a b : ℕ) → fits (first-plan j x y a b .ticket) ≡ true → x .sn b < 60000
-unfolding first-plan plan-for fits idle
-fits-low j x y a b f = either (ltb (x .sn b) 60000) (λ e. ltb-true (x .sn b) 60000 e) (λ e. true-not-false (rw e at f) refl)
 
 module _ (s : State) (x : Memory) (a b : ℕ) where
   pub first-is : plan-of (with-memory s a x) a b ≡ first-plan (s .job) x (s .live b) a b

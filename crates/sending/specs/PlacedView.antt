@@ -5,11 +5,8 @@ use Prim.Native.Nat.{ℕ}
 use lib.Dec.{eqb}
 use Rattle.protocol.specs.Parts as parts
 use Rattle.protocol.specs.Sending.{is-local}
-use Rattle.layout.specs.declared.Layout.{Layout}
-use Rattle.layout.specs.View.{layout-view}
 use Rattle.state.specs.declared.Memory.{Memory}
-use Rattle.state.specs.declared.State.{State}
-use Rattle.state.specs.View.{memory-view, view}
+use Rattle.state.specs.View.{memory-view}
 use Rattle.sending.specs.declared.ticket.Ticket.{Ticket}
 use Rattle.sending.specs.Plan.{plan-on, plan-next}
 use Rattle.sending.specs.Placed.{first-plan, second-plan}
@@ -26,14 +23,3 @@ module _ (j : parts.Job) (x y : Memory) (a b : ℕ) where
   pub second-view : (k : Ticket) (d : ℕ) → plan-next (is-local j a d) (memory-view x) (memory-view (cond (eqb d a) x y)) a b k d ≡ second-plan j (memory-view x) (memory-view y) a b k d
   unfolding second-plan
   second-view k d = ap (λ (m : parts.Memory). plan-next (is-local j a d) (memory-view x) m a b k d) (either-view (eqb d a) x y)
-
--- ---- and in a state that has these memories
-module _ (s : State) {l : Layout} (has : s .layout ≡ l) (x : parts.Memory) (a b : ℕ) where
-  pub first-at : (y : Memory) → view s .live b ≡ memory-view y → first-plan (layout-view l) x (memory-view y) a b ≡ first-plan (view s .job) x (view s .live b) a b
-  unfolding view
-  first-at y at = rw (← has, ← at)
-
-  pub second-at : (k : Ticket) (d : ℕ) (z : Memory) → view s .live d ≡ memory-view z
-      → second-plan (layout-view l) x (memory-view z) a b k d ≡ second-plan (view s .job) x (view s .live d) a b k d
-  unfolding view
-  second-at k d z at = rw (← has, ← at)

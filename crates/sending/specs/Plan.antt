@@ -14,6 +14,7 @@ use Rattle.protocol.specs.Tickets.{entry, next-tn}
 use Rattle.protocol.specs.Sending.{is-local}
 use Rattle.sending.specs.declared.ticket.Ticket.{Ticket}
 use Rattle.sending.specs.declared.ticket.Ticket.the-variants.{Remote, Found, New, TooHigh}
+use Rattle.sending.specs.Ticket.{sn-next}
 use Rattle.sending.specs.declared.plan.Plan.{Plan}
 use Rattle.sending.specs.declared.entry.Receivers.{Receivers}
 
@@ -47,7 +48,7 @@ plan-of s a b = plan-on (is-local (s .job) a b) (s .live a) (s .live b) a b
 -- After a first send with the ticket k, to the same receiver or not: the last SN, the TN that new ones lie above, and the entries that
 -- came before.
 unfoldable pub last-after : Bool → ℕ → ℕ → ℕ
-last-after same n m = cond same (n + 1) m
+last-after same n m = cond same (sn-next n) m
 
 unfoldable pub base-after : Bool → Ticket → ℕ → ℕ
 base-after true (New t) h = t
@@ -80,5 +81,3 @@ pub record Listed (j : Job) (c hops : ℕ) (r : Receivers) : Type 0 where
   pub all : listed r ≡ receivers j c hops
   pub one-in : r .one < 13
   pub two-in : r .two < 13
-  pub one-port : (r .one ≡ 0 → ⊥) → (r .one ≡ j .first c → ⊥) → r .one ≡ j .second c
-  pub both-ports : (r .two ≡ 0 → ⊥) → (r .one ≡ j .first c) × (r .two ≡ j .second c)

@@ -1,9 +1,9 @@
--- What a work comes to, planned before anything is changed.
+-- What a plan says of a work in a state.
 use mathlib.Core.Path.{_≡_}
 use mathlib.Core.Bool.{Bool}
 use mathlib.Core.List.{List, [], _∷_}
 use Prim.Native.Nat.{ℕ, _<_, _≤_, min}
-use lib.ListN.{length, getD, take}
+use lib.ListN.{length, getD}
 use Rattle.protocol.specs.declared.Answer.the-variants.{Accepted, Refused}
 use Rattle.protocol.specs.Parts as parts
 use Rattle.protocol.specs.Parts.{with-memory}
@@ -22,6 +22,7 @@ use Rattle.state.specs.View.{memory-view, view, no-memory}
 use Rattle.sending.specs.declared.Outgoing.{Outgoing}
 use Rattle.sending.specs.declared.Planned.{Planned}
 use Rattle.sending.specs.Sent.{sent, Ready}
+use Rattle.sending.specs.WorkPlan.{outgoing}
 use Rattle.sending.specs.Works.{worked-state}
 
 -- ---- messages sent one after the other
@@ -35,9 +36,6 @@ AllReady s a [] = Unit {0}
 AllReady s a (o ∷ os) = (o .message .sender ≡ a) × (o .message .receiver < 13) × Ready s (o .message) (o .ticket) × AllReady (sent s (o .message) (o .ticket)) a os
 
 -- ---- what a plan says of the outcome o of a frame in s
-abbrev pub outgoing : Planned → List Outgoing
-outgoing r = take (r .count) (r .sends)
-
 -- the chare a has its memory with the message worked, and then sends
 pub record Done (s : parts.State) (a : ℕ) (o : Outcome) (r : Planned) : Type 0 where
   pub inside : a < 13
@@ -48,12 +46,6 @@ pub record PlannedFor (s : parts.State) (a : ℕ) (o : Outcome) (r : Planned) : 
   pub refused : (r .no ≡ 0 → ⊥) → o ≡ record { state = s; answer = Refused (r .no) }
   pub few : r .count ≤ 2
   pub done : r .no ≡ 0 → Done s a o r
-
--- a plan without sends
-pub record Only (n : ℕ) (m : Memory) (r : Planned) : Type 0 where
-  pub no : r .no ≡ n
-  pub memory : r .memory ≡ m
-  pub none : r .count ≡ 0
 
 -- ---- frame 12
 abbrev pub work-outcome : State → ℕ → Outcome
@@ -68,14 +60,3 @@ pub record SeesWork (s : State) (l : Layout) (b : Bool) (q : List Machine) (x y 
   pub first : getD (s .live) (layout-view l .first c) no-memory ≡ y
   pub second : getD (s .live) (layout-view l .second c) no-memory ≡ z
   pub count : min len 128 ≡ length (packets (s .wire))
-
--- what the questions on its entry see
-pub record Around (s : State) (l : Layout) (x y z : Memory) (len c : ℕ) : Type 0 where
-  pub layout : s .layout ≡ l
-  pub own : view s .live c ≡ memory-view x
-  pub first : view s .live (layout-view l .first c) ≡ memory-view y
-  pub second : view s .live (layout-view l .second c) ≡ memory-view z
-  pub count : min len 128 ≡ length (view s .wire)
-
-unfoldable pub Plans : Layout → Bool → List Machine → Memory → Memory → Memory → ℕ → ℕ → Planned → Type 0
-Plans l b q x y z len c r = (s : State) → SeesWork s l b q x y z len c → PlannedFor (view s) c (work-outcome s c) r

@@ -97,11 +97,6 @@ both-less n = either (ltb (n + 1) 16)
     none true = refl
     none false = refl
 
--- the second plan counts only where the first fits
-pub two-same : (p q r : Plan) (log wire : ℕ) → (fits (p .ticket) ≡ true → q ≡ r) → two-verdict p q log wire ≡ two-verdict p r log wire
-unfolding two-verdict verdict
-two-same p q r log wire e = either (fits (p .ticket)) (λ f. rw (e f)) (λ f. rw f)
-
 -- ---- two sends, the second as if the first were made
 module _ (s : State) (a b v h d : ℕ) where
   abbrev first : Plan

@@ -1,8 +1,7 @@
 -- The sends of a chare a whose memory is to be x, as the code judges and makes them.
 use mathlib.Core.Path.{_≡_, sym, ap, subst, _∙_}
-use mathlib.Core.Bool.{true}
 use mathlib.Core.List.{List, [], _∷_}
-use Prim.Native.Nat.{ℕ, _<_}
+use Prim.Native.Nat.{ℕ}
 use lib.ListN.{length}
 use Rattle.lists.specs.Map.{upd-same}
 use Rattle.protocol.specs.declared.Answer.the-variants.{Accepted, Refused}
@@ -11,11 +10,10 @@ use Rattle.protocol.specs.Parts.{with-memory}
 use Rattle.protocol.specs.Sending.{send, send-all}
 use Rattle.sending.specs.declared.ticket.Ticket.{Ticket}
 use Rattle.sending.specs.declared.plan.Plan.{Plan}
-use Rattle.sending.specs.Ticket.{fits}
 use Rattle.sending.specs.Plan.{plan-of, plan-after}
-use Rattle.sending.specs.Sends.{one-verdict, two-verdict, two-same, sends-questions, tried-sends, one-judged, two-judged}
-use Rattle.sending.specs.Sendable.{Sendable, one-sendable, first-sendable, second-sendable, plan-fits}
-use Rattle.sending.specs.Placed.{first-plan, second-plan, fits-low, first-is, second-is}
+use Rattle.sending.specs.Sends.{one-verdict, two-verdict, sends-questions, tried-sends, one-judged, two-judged}
+use Rattle.sending.specs.Sendable.{Sendable, one-sendable, first-sendable, second-sendable}
+use Rattle.sending.specs.Placed.{first-plan, second-plan, first-is, second-is}
 use Rattle.sending.specs.Verdict.{verdict, judged-no, judged-yes}
 
 -- ---- what the verdict n says
@@ -44,22 +42,19 @@ module _ (s : parts.State) (x : parts.Memory) (a b v h : ℕ) (p : Plan) (p-is :
   one-ready e = subst (λ (o : Plan). Sendable (with-memory s a x) a b v h (o .ticket)) p-of (one-sendable (with-memory s a x) a b v h e)
 
   -- and the plan q of a second one
-  module _ (d : ℕ) (q : Plan) (q-is : x .sn b < 60000 → q ≡ second-plan (s .job) x (s .live d) a b (p .ticket) d) where
-    q-after : fits (p .ticket) ≡ true → q ≡ plan-after (with-memory s a x) a b (p .ticket) d
-    q-after f = q-is (fits-low (s .job) x (s .live b) a b (subst (λ (o : Plan). fits (o .ticket) ≡ true) p-is f)) ∙ sym (second-is s x a b (p .ticket) d)
+  module _ (d : ℕ) (q : Plan) (q-is : q ≡ second-plan (s .job) x (s .live d) a b (p .ticket) d) where
+    q-after : q ≡ plan-after (with-memory s a x) a b (p .ticket) d
+    q-after = q-is ∙ sym (second-is s x a b (p .ticket) d)
 
     pub two-said : (log wire n : ℕ) → log ≡ length (x .log) → wire ≡ length (s .wire) → n ≡ two-verdict p q log wire
         → verdict 7 (sends-questions (with-memory s a x) a (b ∷ d ∷ []) v h) ≡ n
     two-said log wire n l w e =
         two-judged (with-memory s a x) a b v h d
-        ∙ cc (p-of, log-of log l, two-same p q (plan-after (with-memory s a x) a b (p .ticket) d) log wire q-after)
+        ∙ cc (p-of, log-of log l, q-after)
 
     module _ (e : verdict 7 (sends-questions (with-memory s a x) a (b ∷ d ∷ []) v h) ≡ 0) where
       pub first-ready : Sendable (with-memory s a x) a b v h (p .ticket)
       first-ready = subst (λ (o : Plan). Sendable (with-memory s a x) a b v h (o .ticket)) p-of (first-sendable (with-memory s a x) a b v h d e)
 
-      p-fits : fits (p .ticket) ≡ true
-      p-fits = subst (λ (o : Plan). fits (o .ticket) ≡ true) p-of (plan-fits first-ready)
-
       pub second-ready : Sendable (send (with-memory s a x) a b v h) a d v h (q .ticket)
-      second-ready = subst (λ (k : Ticket). Sendable (send (with-memory s a x) a b v h) a d v h k) (cc (p-of, q-after p-fits)) (second-sendable (with-memory s a x) a b v h d e)
+      second-ready = subst (λ (k : Ticket). Sendable (send (with-memory s a x) a b v h) a d v h k) (cc (p-of, q-after)) (second-sendable (with-memory s a x) a b v h d e)

@@ -1,23 +1,22 @@
--- Frame 12 as the code puts it: the questions on the entry by an answer n, then the sends of the memory x with its message worked.
-use mathlib.Core.Path.{_≡_, refl, sym, ap, _∙_}
+-- Frame 12 as the code puts it: the receivers by number, and the questions by their answers n.
+use mathlib.Core.Path.{_≡_, sym, _∙_}
 use mathlib.Core.Bool.{true}
-use mathlib.Core.List.{List, [], _∷_}
-use mathlib.Core.Option.{Option, some}
-use Prim.Native.Nat.{ℕ, _-_, _%_, _≤_}
+use mathlib.Core.List.{[], _∷_}
+use mathlib.Core.Option.{some}
+use Prim.Native.Nat.{ℕ, _-_}
 use borrow.Author.Tests.{eq-eqb, ne-eqb}
-use lib.ListN.{length}
 use Rattle.protocol.specs.declared.Entry.{Entry}
-use Rattle.protocol.specs.declared.Answer.the-variants.{Accepted, Refused}
-use Rattle.protocol.specs.Parts.{State, Memory, with-memory}
-use Rattle.protocol.specs.Work.{port, receivers, sent-value}
-use Rattle.protocol.specs.Working.{next-entry, work-entry, worked-only, value-out, hops-out, receivers-of}
-use Rattle.protocol.specs.Questions.{is-chare, work-questions}
+use Rattle.protocol.specs.declared.Answer.the-variants.{Refused}
+use Rattle.protocol.specs.Parts.{State}
+use Rattle.protocol.specs.Work.{port}
+use Rattle.protocol.specs.Working.{next-entry}
+use Rattle.protocol.specs.Frames.{between}
+use Rattle.protocol.specs.Questions.{work-questions}
 use Rattle.state.specs.Outcome.{tried}
 use Rattle.sending.specs.declared.entry.Receivers.{Receivers}
 use Rattle.sending.specs.Plan.{listed}
-use Rattle.sending.specs.Sends.{tried-sends}
 use Rattle.sending.specs.Verdict.{verdict, all-yes}
-use Rattle.sending.specs.Works.{worked-state, chare-questions, tried-work, own-questions, work-tried, work-refused, own-refused, own-passed, none-sent}
+use Rattle.sending.specs.Works.{worked-state, chare-asked, chare-questions, tried-work, own-questions, work-tried, work-refused, own-refused}
 
 -- ---- none, one or two receivers
 module _ (r : Receivers) where
@@ -37,28 +36,14 @@ module _ (s : State) (c : ℕ) (e : Entry) (n : ℕ) (n-is : n ≡ verdict 6 (ow
   pub entry-refused : (n ≡ 0 → ⊥) → tried-work s c (some e) ≡ record { state = s; answer = Refused n }
   entry-refused f = own-refused s c e (λ z. f (n-is ∙ z)) ∙ rw n-is
 
-  module _ (none : n ≡ 0) (x : Memory) (x-is : x ≡ work-entry (s .live c) e) where
-    pub entry-sends : (l : List ℕ) → l ≡ receivers (s .job) c (e .hops) → (h : ℕ) → h ≡ e .hops - 1
-        → tried-work s c (some e) ≡ tried-sends s (with-memory s c x) c l (x .state % 65536) h
-    unfolding worked-only receivers-of value-out sent-value work-entry hops-out
-    entry-sends l l-is h h-is =
-        own-passed s c e (sym n-is ∙ none)
-        ∙ cc (ap (λ (m : Memory). m .state % 65536) x-is, ap (with-memory s c) x-is)
-
-    pub entry-done : [] ≡ receivers (s .job) c (e .hops) → length (s .wire) ≤ 128 → tried-work s c (some e) ≡ record { state = with-memory s c x; answer = Accepted }
-    entry-done l-is top =
-        entry-sends [] l-is (e .hops - 1) refl
-        ∙ none-sent s (with-memory s c x) c (x .state % 65536) (e .hops - 1) top
-
 -- ---- before them the questions on the chare, by an answer n
 module _ (s : State) (c n : ℕ) (n-is : n ≡ verdict 2 (chare-questions s c)) where
   pub chare-refused : (n ≡ 0 → ⊥) → tried s (work-questions s c) (worked-state s c (next-entry (s .live c))) ≡ record { state = s; answer = Refused n }
   chare-refused f = work-refused s c (λ z. f (n-is ∙ z)) _ ∙ rw n-is
 
-  pub chare-there : n ≡ 0 → is-chare s c ≡ true
-  unfolding chare-questions
+  pub chare-there : n ≡ 0 → between 1 (s .job .chares) c ≡ true
+  unfolding chare-asked
   chare-there z = all-yes 1 (chare-questions s c) (sym n-is ∙ z) .1 .0
 
-  pub chare-passed : n ≡ 0 → (o : Option Entry) → o ≡ next-entry (s .live c)
-      → tried s (work-questions s c) (worked-state s c (next-entry (s .live c))) ≡ tried-work s c o
-  chare-passed z o o-is = rw o-is (work-tried s c (sym n-is ∙ z))
+  pub chare-passed : n ≡ 0 → tried s (work-questions s c) (worked-state s c (next-entry (s .live c))) ≡ tried-work s c (next-entry (s .live c))
+  chare-passed z = work-tried s c (sym n-is ∙ z)

@@ -1,14 +1,16 @@
 -- Frame 12: what working the next TN leaves, and its questions in two parts.
 use mathlib.Core.Path.{_≡_, refl}
-use mathlib.Core.Bool.{Bool, not, _&&_}
+use mathlib.Core.Bool.{Bool, not, _&&_, _||_}
 use mathlib.Core.List.{List, [], _∷_}
 use mathlib.Core.Option.{Option, some, none}
 use Prim.Native.Nat.{ℕ, _+_, _≤_}
 use borrow.Author.Tests.{le-leb}
-use lib.Dec.{leb}
+use lib.Dec.{eqb, leb}
 use lib.ListN.{length}
 use Rattle.lists.specs.Questions.{asks}
 use Rattle.protocol.specs.declared.Entry.{Entry}
+use Rattle.protocol.specs.declared.Status.{Status}
+use Rattle.protocol.specs.Frames.{between}
 use Rattle.protocol.specs.declared.Answer.the-variants.{Accepted, Refused}
 use Rattle.protocol.specs.Parts as parts
 use Rattle.protocol.specs.Sending.{send-all}
@@ -27,9 +29,12 @@ unfoldable pub worked-state : parts.State → ℕ → Option Entry → parts.Sta
 worked-state s c none = s
 worked-state s c (some e) = work-next s c e
 
--- 2 to 5
-unfoldable pub chare-questions : parts.State → ℕ → List Bool
-chare-questions s c = s .job .set ∷ is-chare s c ∷ not (s .lost) ∷ parts.up s (s .job .home c) ∷ []
+-- 2 to 5 by the parts that they read, and in a state
+unfoldable pub chare-asked : parts.Job → Bool → (ℕ → Status) → ℕ → List Bool
+chare-asked j lost status c = j .set ∷ between 1 (j .chares) c ∷ not lost ∷ (eqb (j .home c) 0 || not (parts.is-down (status (j .home c)))) ∷ []
+
+abbrev pub chare-questions : parts.State → ℕ → List Bool
+chare-questions s c = chare-asked (s .job) (s .lost) (s .status) c
 
 -- 6 to 11
 unfoldable pub tried-work : parts.State → ℕ → Option Entry → Outcome
@@ -45,11 +50,11 @@ pub record WorkedAs (m : parts.Memory) (e : Entry) (r : Worked) : Type 0 where
 
 module _ (s : parts.State) (c : ℕ) where
   pub work-tried : verdict 2 (chare-questions s c) ≡ 0 → tried s (work-questions s c) (worked-state s c (next-entry (s .live c))) ≡ tried-work s c (next-entry (s .live c))
-  unfolding tried tried-work work-questions chare-questions
+  unfolding tried tried-work work-questions chare-asked is-chare parts.up
   work-tried e = passed s (entry-questions s c (next-entry (s .live c))) _ 1 (chare-questions s c) e
 
   pub work-refused : (verdict 2 (chare-questions s c) ≡ 0 → ⊥) → (t : parts.State) → tried s (work-questions s c) t ≡ record { state = s; answer = Refused (verdict 2 (chare-questions s c)) }
-  unfolding tried work-questions chare-questions
+  unfolding tried work-questions chare-asked is-chare parts.up
   work-refused h t = stopped s (entry-questions s c (next-entry (s .live c))) _ 2 (chare-questions s c) h
 
   pub none-refused : tried-work s c none ≡ record { state = s; answer = Refused 6 }

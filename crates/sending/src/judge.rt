@@ -1,19 +1,20 @@
 // The first questions of a work, and those of an inject.
 ghost use mathlib.Core.Path.{_≡_};
+ghost use Prim.Native.Nat.{min};
 ghost use Rattle.protocol.specs.Parts.{is-down};
-ghost use Rattle.state.specs.View.{view};
-ghost use Rattle.sending.specs.Works.{chare-questions};
+ghost use Rattle.layout.specs.View.{layout-view};
+ghost use Rattle.state.specs.View.{memory-view, statuses};
+ghost use Rattle.sending.specs.Works.{chare-asked};
 ghost use Rattle.sending.specs.Verdict.{verdict};
-ghost use Rattle.sending.specs.InjectBy.{JudgesInject};
+ghost use Rattle.sending.specs.Inject.{asked-by};
 use layout::Layout;
 use protocol::Status;
 use state::Machine;
 use state::Memory;
-use state::State;
 
 // The number of the question that refuses an inject, or 0, by the parts of the state: the desk's memory and the wire's count.
 pub fn judge_inject(l: Layout, lost: bool, desk: Memory, len: u8, chare: u8, hops: u8) -> u8
-    ensures { λ r. ⌜ JudgesInject l lost desk len chare hops r ⌝ }
+    ensures { λ r. ⌜ r ≡ verdict 2 (asked-by (layout-view l) lost (memory-view desk) (min len 128) chare hops) ⌝ }
 {
     if !l.set {
         return 2;
@@ -55,7 +56,7 @@ fn is_down(m: Machine) -> bool
 
 // The first "no" of the questions 2 to 5 for a chare, or 0.
 pub(crate) fn judge_chare(l: Layout, lost: bool, machines: [Machine; 7], chare: u8) -> u8
-    ensures { λ r. ⌜ ((s : State) → s .layout ≡ l → s .lost ≡ lost → s .machines ≡ machines → r ≡ verdict 2 (chare-questions (view s) chare)) ⌝ }
+    ensures { λ r. ⌜ r ≡ verdict 2 (chare-asked (layout-view l) lost (statuses machines) chare) ⌝ }
 {
     if !l.set {
         return 2;

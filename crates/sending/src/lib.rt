@@ -9,15 +9,16 @@ mod verdict;
 mod working;
 
 ghost use mathlib.Core.Path.{_≡_};
+ghost use Prim.Native.Nat.{min};
 ghost use Rattle.layout.specs.View.{layout-view};
 ghost use Rattle.protocol.specs.Sending.{send};
 ghost use Rattle.protocol.specs.Working.{next-entry};
 ghost use Rattle.protocol.specs.Questions.{inject-questions, work-questions};
-ghost use Rattle.state.specs.View.{view};
+ghost use Rattle.state.specs.View.{memory-view, statuses, view};
 ghost use Rattle.state.specs.Outcome.{outcome-view, tried};
 ghost use Rattle.sending.specs.Works.{worked-state};
 ghost use Rattle.sending.specs.Places.{places-of};
-ghost use Rattle.sending.specs.Planned.{Plans};
+ghost use Rattle.sending.specs.WorkPlan.{plan-view, work-plan};
 use entry::next_entry;
 use judge::judge_chare;
 use judge::judge_inject;
@@ -83,7 +84,7 @@ pub fn plan_work(
     len: u8,
     chare: u8,
 ) -> Planned
-    ensures { λ r. ⌜ Plans layout lost machines x y z len chare r ⌝ }
+    ensures { λ r. ⌜ plan-view r ≡ work-plan (layout-view layout) lost (statuses machines) (memory-view x) (memory-view y) (memory-view z) (min len 128) chare ⌝ }
 {
     let no = judge_chare(layout, lost, machines, chare);
     if no != 0 {

@@ -69,7 +69,7 @@ fn plan_for(near: bool, y: Memory, a: u8, last: u16, base: u16, extra: u8) -> Pl
 
 // A second message, after a first one to the same receiver or to another: the last SN.
 pub(crate) fn last_after(same: bool, n: u16, m: u16) -> u16
-    ensures { λ r. ⌜ (n < 60000 → r ≡ last-after same n m) ⌝ }
+    ensures { λ r. ⌜ r ≡ last-after same n m ⌝ }
 {
     if !same {
         return m;
@@ -113,7 +113,7 @@ fn extra_after(same: bool, k: Ticket) -> u8
 // The plan of a send from `a`, with the memory x, to `d`, with the memory z, as if one to `b` with the ticket k were made.
 fn plan_next(far: bool, x: Memory, z: Memory, a: u8, b: u8, k: Ticket, d: u8) -> Plan
     requires { ⌜ (a < 13) × ((b < 13) × (d < 13)) ⌝ }
-    ensures { λ r. ⌜ (memory-view x .sn b < 60000 → r ≡ plan-next far (memory-view x) (memory-view z) a b k d) ⌝ }
+    ensures { λ r. ⌜ r ≡ plan-next far (memory-view x) (memory-view z) a b k d ⌝ }
 {
     let i = b as usize;
     let j = d as usize;
@@ -142,7 +142,7 @@ pub(crate) fn first_plan(l: Layout, x: Memory, y: Memory, a: u8, b: u8) -> Plan
 // The plan of a second send, to `d`, as if that with the ticket k were made.
 pub(crate) fn second_plan(l: Layout, x: Memory, z: Memory, a: u8, b: u8, k: Ticket, d: u8) -> Plan
     requires { ⌜ (a < 13) × ((b < 13) × (d < 13)) ⌝ }
-    ensures { λ r. ⌜ (memory-view x .sn b < 60000 → r ≡ second-plan (layout-view l) (memory-view x) (memory-view z) a b k d) ⌝ }
+    ensures { λ r. ⌜ r ≡ second-plan (layout-view l) (memory-view x) (memory-view z) a b k d ⌝ }
 {
     let m = memory_of(d == a, x, z);
     plan_next(layout::is_local(l, a, d), x, m, a, b, k, d)

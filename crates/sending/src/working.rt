@@ -1,14 +1,10 @@
 // What a work of an entry comes to.
 ghost use mathlib.Core.Path.{_≡_};
-ghost use mathlib.Core.List.{[], _∷_};
-ghost use mathlib.Core.Option.{some};
+ghost use mathlib.Core.List.{[]};
 ghost use Prim.Native.Nat.{_<_, min};
-ghost use lib.ListN.{length};
-ghost use Rattle.protocol.specs.Parts.{with-memory};
-ghost use Rattle.state.specs.View.{memory-view, view};
-ghost use Rattle.sending.specs.Planned.{Only, Around, PlannedFor};
-ghost use Rattle.sending.specs.Sends.{tried-sends};
-ghost use Rattle.sending.specs.Works.{tried-work};
+ghost use Rattle.layout.specs.View.{layout-view};
+ghost use Rattle.state.specs.View.{memory-view};
+ghost use Rattle.sending.specs.WorkPlan.{plan-view, drawn, one-plan, two-plan, entry-plan};
 use crate::Outgoing;
 use crate::Planned;
 use crate::entry::less_one;
@@ -26,11 +22,10 @@ use layout::Layout;
 use protocol::Entry;
 use protocol::Message;
 use state::Memory;
-use state::State;
 
 // No sends: refused, or the message worked.
 pub(crate) fn only(no: u8, memory: Memory) -> Planned
-    ensures { λ r. ⌜ Only no memory r ⌝ }
+    ensures { λ r. ⌜ plan-view r ≡ drawn no (memory-view memory) [] ⌝ }
 {
     let message = Message {
         sender: 0,
@@ -54,7 +49,7 @@ pub(crate) fn only(no: u8, memory: Memory) -> Planned
 // The chare `a`, whose memory is to be x, sends one message, to `b` with the memory y.
 fn plan_one(l: Layout, x: Memory, y: Memory, len: u8, a: u8, b: u8, value: u16, hops: u8) -> Planned
     requires { ⌜ (a < 13) × (b < 13) ⌝ }
-    ensures { λ r. ⌜ ((s : State) → s .layout ≡ l → view s .live b ≡ memory-view y → min len 128 ≡ length (view s .wire) → PlannedFor (view s) a (tried-sends (view s) (with-memory (view s) a (memory-view x)) a (b ∷ []) value hops) r) ⌝ }
+    ensures { λ r. ⌜ plan-view r ≡ one-plan (layout-view l) (memory-view x) (memory-view y) (min len 128) a b value hops ⌝ }
 {
     let f = first_plan(l, x, y, a, b);
     let g = x.log;
@@ -87,7 +82,7 @@ fn plan_two(
     hops: u8,
 ) -> Planned
     requires { ⌜ (a < 13) × ((b < 13) × (d < 13)) ⌝ }
-    ensures { λ r. ⌜ ((s : State) → s .layout ≡ l → view s .live b ≡ memory-view y → view s .live d ≡ memory-view z → min len 128 ≡ length (view s .wire) → PlannedFor (view s) a (tried-sends (view s) (with-memory (view s) a (memory-view x)) a (b ∷ d ∷ []) value hops) r) ⌝ }
+    ensures { λ r. ⌜ plan-view r ≡ two-plan (layout-view l) (memory-view x) (memory-view y) (memory-view z) (min len 128) a b d value hops ⌝ }
 {
     let f = first_plan(l, x, y, a, b);
     let j = f.ticket;
@@ -130,7 +125,7 @@ pub(crate) fn plan_entry(
     e: Entry,
 ) -> Planned
     requires { ⌜ chare < 13 ⌝ }
-    ensures { λ r. ⌜ ((s : State) → Around s l x y z len chare → PlannedFor (view s) chare (tried-work (view s) chare (some e)) r) ⌝ }
+    ensures { λ r. ⌜ plan-view r ≡ entry-plan (layout-view l) (memory-view x) (memory-view y) (memory-view z) (min len 128) chare e ⌝ }
 {
     let w = work_entry(x, e);
     let v = w.memory;

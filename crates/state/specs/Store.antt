@@ -1,17 +1,11 @@
 -- Storing at an index of an array is an update of its map, and what the maps are past the arrays' ends.
-use mathlib.Core.Path.{_≡_, refl, sym, ap, _∙_, fun-ext}
-use mathlib.Core.Bool.{Bool, false}
-use mathlib.Core.List.{List, []}
-use Prim.Native.Nat.{ℕ, _≤_, _<_}
+use mathlib.Core.Path.{_≡_, ap, _∙_, fun-ext}
+use mathlib.Core.List.{List}
+use Prim.Native.Nat.{ℕ, _<_}
 use lib.ListN.{length, set}
 use Rattle.lists.specs.Map.{upd, upd-ind, upd-same, upd-other}
-use Rattle.arrays.specs.ArrayMap.{as-map, map-set, map-beyond}
-use Rattle.protocol.specs.declared.Status.{Status}
-use Rattle.protocol.specs.declared.Status.the-variants.{Up}
-use Rattle.protocol.specs.Parts as parts
+use Rattle.arrays.specs.ArrayMap.{as-map, map-set}
 use Rattle.window.specs.Bits.{bits}
-use Rattle.log.specs.Log as log
-use Rattle.table.specs.Table as table
 use Rattle.notes.specs.View as notes
 use Rattle.notes.specs.declared.Notes.{Notes}
 use Rattle.state.specs.declared.Memory.{Memory}

@@ -1,5 +1,5 @@
 -- The end of an input, and a whole input: what the functions yield, from what feeding yields.
-use mathlib.Core.Bool.{Bool, true, false, cond, _&&_, _||_}
+use mathlib.Core.Bool.{true, false, cond}
 use mathlib.Core.List.{List, [], _∷_, _++_, append-assoc, append-nil}
 use mathlib.Core.Path.{_≡_, refl, sym, ap, _∙_}
 use Prim.Native.Nat.{ℕ, zero, suc, _+_, _-_, _≤_, _<_}
@@ -13,12 +13,10 @@ use Rattle.protocol.specs.Lines.{newline}
 use Rattle.state.specs.View.{view}
 use Rattle.transcript.specs.Reading.{Reading, answer-room, beginning, read-byte, byte-output, read-all, output, is-empty, last-output, takes, finishes}
 use Rattle.transcript.specs.Pieces.{output-nil, output-one, kept-empty, reads-transcript}
-use Rattle.transcript.specs.LineWise.{takes-nil}
 use Rattle.transcript.specs.View.{reading, Feeding, end-output, Ending, enough, whole-output, Transcribed}
 use Rattle.transcript.specs.declared.Reader.{Reader}
 use Rattle.transcript.specs.declared.Fed.{Fed}
 use Rattle.transcript.specs.declared.Ended.{Ended}
-use Rattle.protocol.specs.Step.{answers}
 
 -- ---- what was taken lies within the input, what was written within the buffer
 pub takes-le : (room : ℕ) (r : Reading) (i : List ℕ) → takes room r i ≤ length i

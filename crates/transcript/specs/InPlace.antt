@@ -19,7 +19,7 @@ use Rattle.notes.specs.View.{noted}
 use Rattle.state.specs.declared.Memory.{Memory}
 use Rattle.state.specs.declared.State.{State}
 use Rattle.state.specs.declared.Stepped.{Stepped}
-use Rattle.state.specs.View.{view, statuses, no-memory, no-notes}
+use Rattle.state.specs.View.{view, statuses, no-memory}
 use Rattle.state.specs.Number.{number}
 use Rattle.state.specs.Outcome.{outcome-view}
 use Rattle.machines.specs.declared.Course.{Course}

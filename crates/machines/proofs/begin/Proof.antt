@@ -6,7 +6,6 @@ use Rattle.machines.specs.Begin.{begin-is, Ready, first-memories}
 use Rattle.layout.specs.ViewLaws.{machines-top, chares-top}
 use Rattle.machines.proofs.begin.Statement.{statement}
 use Rattle.machines.proofs.begin.Tie as tie
-use Rattle.wire.proofs.empty.Reads as empty-reads′
 
 machines-requires : tie.Need-machines-requires
 machines-requires c κs = search needs

@@ -3,7 +3,6 @@ use borrow.Author.Needs.{needs}
 use Rattle.machines.specs.Begin.{fresh-is}
 use Rattle.machines.proofs.fresh.Statement.{statement}
 use Rattle.machines.proofs.fresh.Tie as tie
-use Rattle.table.proofs.empty.Reads as empty-reads′
 
 empty-requires : tie.Need-empty-requires
 empty-requires c κs = search needs

@@ -10,7 +10,8 @@ use Rattle.wire.specs.View.{packets}
 use Rattle.sending.specs.InPlace.{Sending, plan-refused, sending-start, sending-more, sending-end, sending-to}
 use Rattle.sending.specs.Places.{own-in, first-in, second-in, own-number, sees-work}
 use Rattle.state.specs.View.{view}
-use Rattle.sending.specs.Planned.{Plans, PlannedFor, work-outcome}
+use Rattle.sending.specs.Planned.{PlannedFor, work-outcome}
+use Rattle.sending.specs.PlannedLaws.{plans}
 use Rattle.sending.proofs.work.Statement.{statement}
 use Rattle.sending.proofs.work.Tie as tie
 
@@ -63,11 +64,10 @@ plan-work-requires : tie.Need-plan-work-requires Inv-loop μ-loop
 plan-work-requires c κs = search needs
 
 planned : (c : tie.After-plan-work Inv-loop μ-loop) → let a = c .before .before .before .before .before .before .before .before .before .before .args in PlannedFor (view (a .t1)) (a .chare) (work-outcome (a .t1) (a .chare)) (c .plan-work .result)
-unfolding Plans
 planned c =
     let q = c .before .before .before .before .before .before .before in
     let o = q .before .before .before in
-    c .plan-work .ensures (o .args .t1) (sees-work (o .args .t1) (o .args .chare) (q .places-of .result) (q .places-of .ensures) _ (held o))
+    plans _ _ _ _ _ _ _ _ _ (c .plan-work .ensures) (o .args .t1) (sees-work (o .args .t1) (o .args .chare) (q .places-of .result) (q .places-of .ensures) _ (held o))
 
 returns : tie.Need-returns Inv-loop μ-loop
 returns c = plan-refused _ _ _ (planned (c .before .before)) (c .if1 .taken)

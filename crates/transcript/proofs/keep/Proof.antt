@@ -1,10 +1,9 @@
 -- `keep` puts a piece behind the bytes of a line, as far as there is room. The invariant: i bytes are copied.
-use mathlib.Core.Path.{_≡_, sym, ap, _∙_}
+use mathlib.Core.Path.{_≡_, ap, _∙_}
 use Prim.Native.Nat.{_+_, _-_, _≤_}
-use native.Mathlib.Numerals.{add-one}
 use native.Mathlib.Omega.{arith}
 use borrow.Author.Needs.{needs}
-use lib.ListN.{length, take}
+use lib.ListN.{take}
 use lib.Seq.{paste}
 use Rattle.transcript.specs.Copies.{Copied, copy-none, copy-one, kept-piece}
 use Rattle.transcript.proofs.keep.Statement.{statement}

@@ -1,5 +1,5 @@
 -- `fill_locals` goes through the copied logs of all chares. The loop: those from q on are still to come.
-use mathlib.Core.Path.{_≡_, _∙_}
+use mathlib.Core.Path.{_≡_}
 use Prim.Native.Nat.{_≤_, _-_}
 use native.Mathlib.Omega.{arith}
 use borrow.Author.Needs.{needs}

@@ -3,14 +3,13 @@ use Rattle.protocol.specs.Work.{port, ports, receivers}
 use Rattle.layout.specs.ViewLaws.{first-top, second-top}
 use borrow.Author.Tests.{eq-eqb, ne-eqb}
 use native.Mathlib.Omega.{arith}
-use mathlib.Core.Path.{refl}
 use borrow.Author.Needs.{needs}
 use Rattle.sending.proofs.entry.receivers_of.Statement.{statement}
 use Rattle.sending.proofs.entry.receivers_of.Tie as tie
 
 returns : tie.Need-returns
 unfolding listed receivers
-returns c = record { all = rw (eq-eqb (c .before .args .hops) 0 (c .if1 .taken)); one-in = omega arith; two-in = omega arith; one-port = λ n f. absurd (n refl); both-ports = λ n. absurd (n refl) }
+returns c = record { all = rw (eq-eqb (c .before .args .hops) 0 (c .if1 .taken)); one-in = omega arith; two-in = omega arith }
 
 first-requires : tie.Need-first-requires
 first-requires c κs = search needs
@@ -26,8 +25,6 @@ returns-2 c =
       all = rw (ne-eqb (a .hops) 0 (c .before .before .before .if1 .left), c .before .second .ensures, ← c .before .before .first .ensures, eq-eqb (c .before .before .first .result) 0 (c .if2 .taken));
       one-in = omega (arith, c .before .second .ensures, second-top (a .l) (a .c));
       two-in = omega arith;
-      one-port = λ n f. c .before .second .ensures;
-      both-ports = λ n. absurd (n refl);
     }
 
 returns-3 : tie.Need-returns-3
@@ -38,8 +35,6 @@ returns-3 c =
       all = rw (ne-eqb (a .hops) 0 (c .before .before .before .if1 .left), c .before .second .ensures, ← c .before .before .first .ensures, ne-eqb (c .before .before .first .result) 0 (c .if2 .left));
       one-in = omega (arith, c .before .before .first .ensures, first-top (a .l) (a .c));
       two-in = omega (arith, c .before .second .ensures, second-top (a .l) (a .c));
-      one-port = λ n f. absurd (f (c .before .before .first .ensures));
-      both-ports = λ n. (c .before .before .first .ensures, c .before .second .ensures);
     }
 
 pub receivers-of-spec : {M : Type 1} → statement M

@@ -1,42 +1,41 @@
 -- `judge_chare`: the questions 2 to 5 in order.
 use mathlib.Core.Path.{_≡_, sym, ap, _∙_}
-use mathlib.Core.Bool.{Bool, true, not}
+use mathlib.Core.Bool.{Bool, true, not, _||_}
 use mathlib.Core.List.{List, [], _∷_}
 use native.Mathlib.Omega.{arith}
 use borrow.Author.Needs.{needs}
 use borrow.Author.Tests.{eq-eqb, ne-eqb}
+use lib.Dec.{eqb}
 use Rattle.arrays.specs.ArrayMap.{as-map}
-use Rattle.protocol.specs.Parts.{up}
-use Rattle.protocol.specs.Questions.{is-chare}
+use Rattle.protocol.specs.Parts.{is-down}
 use Rattle.layout.specs.View.{layout-view}
 use Rattle.layout.specs.ViewLaws.{home-top}
-use Rattle.state.specs.View.{view, statuses}
-use Rattle.sending.specs.Bare.{bare, bare-asked}
+use Rattle.state.specs.View.{statuses}
 use Rattle.sending.specs.Verdict.{verdict, was-false, was-true}
-use Rattle.sending.specs.Works.{chare-questions}
+use Rattle.sending.specs.Works.{chare-asked}
 use Rattle.sending.proofs.judge.judge_chare.Statement.{statement}
 use Rattle.sending.proofs.judge.judge_chare.Tie as tie
 
 returns : tie.Need-returns
-unfolding verdict chare-questions view layout-view
-returns c = let a = c .before .before .args in bare-asked (a .l) (a .lost) (a .t3) (a .chare) (rw (was-false (a .l .set) (c .if1 .taken)))
+unfolding verdict chare-asked layout-view
+returns c = let a = c .before .before .args in rw (was-false (a .l .set) (c .if1 .taken))
 
 is-chare-requires : tie.Need-is-chare-requires
 is-chare-requires c κs = search needs
 
 returns-2 : tie.Need-returns-2
-unfolding verdict chare-questions view layout-view is-chare
+unfolding verdict chare-asked layout-view
 returns-2 c =
     let i = c .before in
     let a = i .before .before .before .args in
-    bare-asked (a .l) (a .lost) (a .t3) (a .chare) (rw (was-true (a .l .set) (i .before .if1 .left), sym (i .is-chare .ensures) ∙ was-false (i .is-chare .result) (c .if2 .taken)))
+    rw (was-true (a .l .set) (i .before .if1 .left), sym (i .is-chare .ensures) ∙ was-false (i .is-chare .result) (c .if2 .taken))
 
 returns-3 : tie.Need-returns-3
-unfolding verdict chare-questions view layout-view is-chare
+unfolding verdict chare-asked layout-view
 returns-3 c =
     let i = c .before .before in
     let a = i .before .before .before .args in
-    bare-asked (a .l) (a .lost) (a .t3) (a .chare) (rw (was-true (a .l .set) (i .before .if1 .left), sym (i .is-chare .ensures) ∙ was-true (i .is-chare .result) (c .before .if2 .left), c .if3 .taken))
+    rw (was-true (a .l .set) (i .before .if1 .left), sym (i .is-chare .ensures) ∙ was-true (i .is-chare .result) (c .before .if2 .left), c .if3 .taken)
 
 three-yes : {x y z : Bool} (l : List Bool) → x ≡ true → y ≡ true → z ≡ true → verdict 5 l ≡ verdict 2 (x ∷ y ∷ z ∷ l)
 unfolding verdict
@@ -44,9 +43,9 @@ three-yes l e f g = rw (e, f, g)
 
 -- 2 to 4 passed
 passed : (c : tie.Else3) → let a = c .before .before .before .before .before .args in
-    let s = view (bare (a .l) (a .lost) (a .t3)) in
-    verdict 5 (up s (s .job .home (a .chare)) ∷ []) ≡ verdict 2 (chare-questions s (a .chare))
-unfolding chare-questions view layout-view is-chare
+    let h = layout-view (a .l) .home (a .chare) in
+    verdict 5 ((eqb h 0 || not (is-down (statuses (a .t3) h))) ∷ []) ≡ verdict 2 (chare-asked (layout-view (a .l)) (a .lost) (statuses (a .t3)) (a .chare))
+unfolding chare-asked layout-view
 passed c =
     let i = c .before .before in
     let a = i .before .before .before .args in
@@ -56,11 +55,11 @@ home-requires : tie.Need-home-requires
 home-requires c κs = search needs
 
 returns-4 : tie.Need-returns-4
-unfolding verdict view up
+unfolding verdict
 returns-4 c =
     let h = c .before in
     let a = h .before .before .before .before .before .before .args in
-    bare-asked (a .l) (a .lost) (a .t3) (a .chare) (rw (← passed (h .before), eq-eqb (layout-view (a .l) .home (a .chare)) 0 (sym (h .home .ensures) ∙ c .if4 .taken)))
+    rw (← passed (h .before), eq-eqb (layout-view (a .l) .home (a .chare)) 0 (sym (h .home .ensures) ∙ c .if4 .taken))
 
 cast-p : tie.Need-cast-p
 cast-p c = search needs
@@ -78,20 +77,20 @@ is-down-requires : tie.Need-is-down-requires
 is-down-requires c κs = search needs
 
 returns-5 : tie.Need-returns-5
-unfolding verdict view up statuses as-map
+unfolding verdict statuses as-map
 returns-5 c =
     let d = c .before in
     let h = d .before .before .before in
     let a = h .before .before .before .before .before .before .args in
-    bare-asked (a .l) (a .lost) (a .t3) (a .chare) (rw (← passed (h .before), ← h .home .ensures, ne-eqb (h .home .result) 0 (d .before .before .if4 .left), ← d .is-down .ensures, c .if5 .taken))
+    rw (← passed (h .before), ← h .home .ensures, ne-eqb (h .home .result) 0 (d .before .before .if4 .left), ← d .is-down .ensures, c .if5 .taken)
 
 returns-6 : tie.Need-returns-6
-unfolding verdict view up statuses as-map
+unfolding verdict statuses as-map
 returns-6 c =
     let d = c .before in
     let h = d .before .before .before in
     let a = h .before .before .before .before .before .before .args in
-    bare-asked (a .l) (a .lost) (a .t3) (a .chare) (rw (← passed (h .before), ← h .home .ensures, ne-eqb (h .home .result) 0 (d .before .before .if4 .left), ← d .is-down .ensures, c .if5 .left))
+    rw (← passed (h .before), ← h .home .ensures, ne-eqb (h .home .result) 0 (d .before .before .if4 .left), ← d .is-down .ensures, c .if5 .left)
 
 pub judge-chare-spec : {M : Type 1} → statement M
 judge-chare-spec =

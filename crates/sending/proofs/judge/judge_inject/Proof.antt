@@ -12,13 +12,13 @@ use Rattle.layout.specs.View.{layout-view}
 use Rattle.state.specs.View.{memory-view}
 use Rattle.sending.specs.Store.{chare-index}
 use Rattle.sending.specs.Verdict.{verdict, was-false, was-true}
-use Rattle.sending.specs.InjectBy.{room-by, asked-by, judges}
+use Rattle.sending.specs.Inject.{room-by, asked-by}
 use Rattle.sending.proofs.judge.judge_inject.Statement.{statement}
 use Rattle.sending.proofs.judge.judge_inject.Tie as tie
 
 returns : tie.Need-returns
 unfolding verdict asked-by layout-view
-returns c = let a = c .before .before .args in judges _ _ _ _ _ _ _ (rw (was-false (a .l .set) (c .if1 .taken)))
+returns c = let a = c .before .before .args in rw (was-false (a .l .set) (c .if1 .taken))
 
 is-chare-requires : tie.Need-is-chare-requires
 is-chare-requires c κs = search needs
@@ -28,7 +28,7 @@ unfolding verdict asked-by layout-view
 returns-2 c =
     let a = c .before .before .before .before .args in
     let i = c .before .is-chare in
-    judges _ _ _ _ _ _ _ (rw (was-true (a .l .set) (c .before .before .if1 .left), sym (i .ensures) ∙ was-false (i .result) (c .if2 .taken)))
+    rw (was-true (a .l .set) (c .before .before .if1 .left), sym (i .ensures) ∙ was-false (i .result) (c .if2 .taken))
 
 -- 2 and the first part of 3 passed
 set-known : (c : tie.Else2) → layout-view (c .before .before .before .before .args .l) .set ≡ true
@@ -42,16 +42,16 @@ returns-3 : tie.Need-returns-3
 unfolding verdict asked-by
 returns-3 c =
     let a = c .before .before .before .before .before .args in
-    judges _ _ _ _ _ _ _ (rw (set-known (c .before), chare-known (c .before), lt-leb (a .hops) 7 (c .if3 .taken)))
+    rw (set-known (c .before), chare-known (c .before), lt-leb (a .hops) 7 (c .if3 .taken))
 
 returns-4 : tie.Need-returns-4
 unfolding verdict asked-by
 returns-4 c =
     let a = c .before .before .before .before .before .before .args in
-    judges _ _ _ _ _ _ _ (rw (set-known (c .before .before), chare-known (c .before .before), le-leb (a .hops) 7 (c .before .if3 .left), c .if4 .taken))
+    rw (set-known (c .before .before), chare-known (c .before .before), le-leb (a .hops) 7 (c .before .if3 .left), c .if4 .taken)
 
 -- 2 to 4 passed
-passed : (c : tie.Else4) → let a = c .before .before .before .before .before .before .args in verdict 7 (room-by (a .t3) (a .len) (a .chare)) ≡ verdict 2 (asked-by (a .l) (a .lost) (a .t3) (a .len) (a .chare) (a .hops))
+passed : (c : tie.Else4) → let a = c .before .before .before .before .before .before .args in verdict 7 (room-by (memory-view (a .t3)) (min (a .len) 128) (a .chare)) ≡ verdict 2 (asked-by (layout-view (a .l)) (a .lost) (memory-view (a .t3)) (min (a .len) 128) (a .chare) (a .hops))
 unfolding verdict asked-by
 passed c =
     let a = c .before .before .before .before .before .before .args in
@@ -70,7 +70,7 @@ unfolding verdict room-by memory-view as-map
 returns-5 c =
     let a = c .before .before .before .before .before .before .before .before .args in
     let x = memory-view (a .t3) in
-    judges _ _ _ _ _ _ _ (rw (← passed (c .before .before), lt-leb (x .sn (a .chare) + 1) 60000 (omega (arith, c .if5 .taken))))
+    rw (← passed (c .before .before), lt-leb (x .sn (a .chare) + 1) 60000 (omega (arith, c .if5 .taken)))
 
 count-requires : tie.Need-count-requires
 count-requires c κs = search needs
@@ -80,7 +80,7 @@ unfolding verdict room-by memory-view as-map
 returns-6 c =
     let a = c .before .before .before .before .before .before .before .before .before .before .before .args in
     let x = memory-view (a .t3) in
-    judges _ _ _ _ _ _ _ (rw (← passed (c .before .before .before .before .before), le-leb (x .sn (a .chare) + 1) 60000 (omega (arith, c .before .before .before .if5 .left)), le-ltb (length (x .log)) 16 (omega (arith, c .before .count .ensures, c .if6 .taken))))
+    rw (← passed (c .before .before .before .before .before), le-leb (x .sn (a .chare) + 1) 60000 (omega (arith, c .before .before .before .if5 .left)), le-ltb (length (x .log)) 16 (omega (arith, c .before .count .ensures, c .if6 .taken)))
 
 held-requires : tie.Need-held-requires
 held-requires c κs = search needs
@@ -90,14 +90,14 @@ unfolding verdict room-by memory-view as-map
 returns-7 c =
     let a = c .before .before .before .before .before .before .before .before .before .before .before .before .before .args in
     let x = memory-view (a .t3) in
-    judges _ _ _ _ _ _ _ (rw (← passed (c .before .before .before .before .before .before .before), le-leb (x .sn (a .chare) + 1) 60000 (omega (arith, c .before .before .before .before .before .if5 .left)), lt-ltb (length (x .log)) 16 (omega (arith, c .before .before .before .count .ensures, c .before .before .if6 .left)), lt-leb (min (a .len) 128 + 1) 128 (omega (arith, c .before .held .ensures, c .if7 .taken))))
+    rw (← passed (c .before .before .before .before .before .before .before), le-leb (x .sn (a .chare) + 1) 60000 (omega (arith, c .before .before .before .before .before .if5 .left)), lt-ltb (length (x .log)) 16 (omega (arith, c .before .before .before .count .ensures, c .before .before .if6 .left)), lt-leb (min (a .len) 128 + 1) 128 (omega (arith, c .before .held .ensures, c .if7 .taken)))
 
 returns-8 : tie.Need-returns-8
 unfolding verdict room-by memory-view as-map
 returns-8 c =
     let a = c .before .before .before .before .before .before .before .before .before .before .before .before .before .args in
     let x = memory-view (a .t3) in
-    judges _ _ _ _ _ _ _ (rw (← passed (c .before .before .before .before .before .before .before), le-leb (x .sn (a .chare) + 1) 60000 (omega (arith, c .before .before .before .before .before .if5 .left)), lt-ltb (length (x .log)) 16 (omega (arith, c .before .before .before .count .ensures, c .before .before .if6 .left)), le-leb (min (a .len) 128 + 1) 128 (omega (arith, c .before .held .ensures, c .if7 .left))))
+    rw (← passed (c .before .before .before .before .before .before .before), le-leb (x .sn (a .chare) + 1) 60000 (omega (arith, c .before .before .before .before .before .if5 .left)), lt-ltb (length (x .log)) 16 (omega (arith, c .before .before .before .count .ensures, c .before .before .if6 .left)), le-leb (min (a .len) 128 + 1) 128 (omega (arith, c .before .held .ensures, c .if7 .left)))
 
 pub judge-inject-spec : {M : Type 1} → statement M
 judge-inject-spec =

@@ -33,7 +33,7 @@ plan-for-requires c κs = let a = c .before .before .before .before .before .arg
 
 returns : tie.Need-returns
 unfolding memory-view as-map
-returns c low = rw (c .plan-for .ensures, c .before .extra-after .ensures, c .before .before .base-after .ensures, c .before .before .before .last-after .ensures low)
+returns c = rw (c .plan-for .ensures, c .before .extra-after .ensures, c .before .before .base-after .ensures, c .before .before .before .last-after .ensures)
 
 pub plan-next-spec : {M : Type 1} → statement M
 plan-next-spec =

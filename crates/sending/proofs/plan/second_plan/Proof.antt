@@ -14,9 +14,9 @@ plan-next-requires : tie.Need-plan-next-requires
 plan-next-requires c κs = search needs
 
 returns : tie.Need-returns
-returns c low =
+returns c =
     let a = c .before .before .before .args in
-    rw (c .plan-next .ensures low, c .before .is-local .ensures, c .before .before .memory-of .ensures) (second-view (layout-view (a .l)) (a .x) (a .z) (a .a) (a .b) (a .k) (a .d))
+    rw (c .plan-next .ensures, c .before .is-local .ensures, c .before .before .memory-of .ensures) (second-view (layout-view (a .l)) (a .x) (a .z) (a .a) (a .b) (a .k) (a .d))
 
 pub second-plan-spec : {M : Type 1} → statement M
 second-plan-spec =
