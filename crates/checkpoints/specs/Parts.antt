@@ -6,7 +6,7 @@ use Rattle.protocol.specs.declared.Logged.{Logged}
 use Rattle.protocol.specs.declared.Status.{Status}
 use Rattle.protocol.specs.Parts.{Job, Memory, with-log}
 use Rattle.protocol.specs.Checkpoint.{pruned}
-use Rattle.machines.specs.Asking.{runs}
+use Rattle.state.specs.Asking.{runs}
 
 -- a memory whose log keeps what passes a test
 unfoldable pub cleaned : (Logged → Bool) → Memory → Memory

@@ -21,7 +21,7 @@ use Rattle.state.specs.declared.Memory.{Memory}
 use Rattle.state.specs.declared.State.{State}
 use Rattle.state.specs.View.{view, memory-view, memories, no-memory, statuses, note-lists}
 use Rattle.state.specs.Store.{memories-set, note-lists-set}
-use Rattle.machines.specs.Asking.{runs}
+use Rattle.state.specs.Asking.{runs}
 use Rattle.machines.specs.Beyond.{memories-at, memories-beyond}
 use Rattle.machines.specs.Homes.{residents, residents-on}
 use Rattle.machines.specs.Standing.{holding, holding-status, holding-held}

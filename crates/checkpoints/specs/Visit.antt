@@ -11,7 +11,7 @@ use Rattle.protocol.specs.declared.Logged.{Logged}
 use Rattle.protocol.specs.declared.Status.{Status}
 use Rattle.protocol.specs.Parts.{Job, Memory, with-log, blank}
 use Rattle.protocol.specs.Checkpoint.{pruned}
-use Rattle.machines.specs.Asking.{runs}
+use Rattle.state.specs.Asking.{runs}
 use Rattle.checkpoints.specs.Parts.{cleaned, loses, visited-copy, visited-live}
 
 -- ---- the first half: on the machine or not

@@ -2,6 +2,7 @@
 ghost use mathlib.Core.Path.{_≡_};
 ghost use mathlib.Core.Bool.{false, _&&_};
 ghost use Prim.Native.Nat.{_≤_};
+ghost use Rattle.lists.specs.Questions.{first-no};
 ghost use Rattle.arrays.specs.ArrayMap.{as-map};
 ghost use Rattle.protocol.specs.Checkpoint.{pruned, checkpoint};
 ghost use Rattle.protocol.specs.Questions.{checkpoint-questions};
@@ -9,9 +10,9 @@ ghost use Rattle.log.specs.Log.{is-kept};
 ghost use Rattle.layout.specs.View.{layout-view};
 ghost use Rattle.state.specs.View.{memory-view, statuses, view};
 ghost use Rattle.state.specs.Outcome.{outcome-view, tried};
-ghost use Rattle.machines.specs.Asking.{runs};
+ghost use Rattle.state.specs.Asking.{runs};
 ghost use Rattle.checkpoints.specs.Parts.{cleaned, loses};
-ghost use Rattle.checkpoints.specs.Whole.{Judges};
+ghost use Rattle.checkpoints.specs.Whole.{asked-by};
 use layout::Layout;
 use protocol::Answer;
 use state::Machine;
@@ -49,25 +50,25 @@ pub fn loses(
     if log::drops_none(live.log, heights, which) {
         return false;
     }
-    machines::is_up(m, layout::home(l, c))
+    state::is_up(m, layout::home(l, c))
 }
 
 // Two machines are up.
 fn both_up(m: [Machine; 7], p: u8, q: u8) -> bool
     ensures { λ r. ⌜ r ≡ (runs (statuses m) p && runs (statuses m) q) ⌝ }
 {
-    if !machines::is_up(m, p) {
+    if !state::is_up(m, p) {
         return false;
     }
-    machines::is_up(m, q)
+    state::is_up(m, q)
 }
 
 // The questions of a checkpoint: the first "no", or 0.
 pub fn judge(l: Layout, lost: bool, m: [Machine; 7], p: u8) -> u8
-    ensures { λ r. ⌜ Judges l lost m p r ⌝ }
+    ensures { λ r. ⌜ r ≡ first-no 2 (asked-by (layout-view l) lost (statuses m) p) ⌝ }
 {
     let b = layout::buddy(l, p);
-    machines::first_no(l.set, layout::is_machine(l, p), lost, both_up(m, p, b))
+    state::first_no(l.set, layout::is_machine(l, p), lost, both_up(m, p, b))
 }
 
 // Chare by chare: if it is on the machine, its table is pruned and its copy made anew; then its log, if it is the desk's or on a machine

@@ -5,6 +5,7 @@ use mathlib.Core.List.{List, [], _∷_}
 use Prim.Native.Nat.{ℕ, _<_}
 use lib.ListN.{length, set}
 use Rattle.lists.specs.Lists.{allb, keep}
+use Rattle.lists.specs.Questions.{first-no}
 use Rattle.lists.specs.Map.{upd}
 use Rattle.arrays.specs.ArrayMap.{as-map}
 use Rattle.protocol.specs.declared.Answer.the-variants.{Accepted, Lost}
@@ -22,7 +23,7 @@ use Rattle.state.specs.declared.Memory.{Memory}
 use Rattle.state.specs.declared.State.{State}
 use Rattle.state.specs.View.{view, memories, statuses, helds, note-lists}
 use Rattle.state.specs.Outcome.{outcome-view}
-use Rattle.machines.specs.Asking.{runs, first-no}
+use Rattle.state.specs.Asking.{runs}
 use Rattle.machines.specs.Standing.{now, now-status, now-held}
 use Rattle.machines.specs.Chosen.{chosen, home-chosen}
 use Rattle.machines.specs.Settle.{calm, calm-strict}

@@ -158,11 +158,11 @@ pub fn crash(s: State, p: u8) -> Stepped
 {
     let l = s.layout;
     let m = s.machines;
-    let n = machines::first_no(
+    let n = state::first_no(
         l.set,
         layout::is_machine(l, p),
         s.lost,
-        machines::is_up(m, p),
+        state::is_up(m, p),
     );
     if n != 0 {
         return Stepped {

@@ -8,7 +8,7 @@ use native.Mathlib.Omega.{arith}
 use lib.ListN.{length, getD, set}
 use Rattle.lists.specs.Map.{upd}
 use Rattle.lists.specs.Lists.{find, find-some, remove1}
-use Rattle.lists.specs.Questions.{asks}
+use Rattle.lists.specs.Questions.{asks, first-no, first-no-yes}
 use Rattle.arrays.specs.ArrayMap.{as-map}
 use Rattle.arrays.specs.Front.{push-fits}
 use Rattle.protocol.specs.declared.Answer.the-variants.{Accepted, Refused}
@@ -36,7 +36,7 @@ use Rattle.delivery.specs.declared.chare.Reply.{Reply}
 use Rattle.delivery.specs.declared.chare.Reply.the-variants.{Nothing, Send}
 use Rattle.delivery.specs.declared.chare.Arrived.{Arrived}
 use Rattle.delivery.specs.declared.NoteArrived.{NoteArrived}
-use Rattle.delivery.specs.More.{first-no, first-no-yes, by-refused, by-none, then}
+use Rattle.delivery.specs.More.{by-refused, by-none, then}
 use Rattle.delivery.specs.Effect.{effect, effect-questions, place-of}
 use Rattle.delivery.specs.NoteEffect.{note-effect, note-questions}
 use Rattle.delivery.specs.View.{reply-of, arrived, note-arrived, answered}

@@ -5,7 +5,7 @@ use mathlib.Core.List.{List, _++_}
 use mathlib.Core.Option.{some, none}
 use Prim.Native.Nat.{ℕ}
 use Rattle.lists.specs.Lists.{remove1}
-use Rattle.lists.specs.Questions.{asks}
+use Rattle.lists.specs.Questions.{asks, first-no, first-no-yes, asks-no, asks-after}
 use Rattle.protocol.specs.declared.Answer.the-variants.{Accepted, Refused}
 use Rattle.protocol.specs.declared.Packet.{Packet}
 use Rattle.protocol.specs.declared.Content.the-variants.{Note as NOTE}
@@ -14,11 +14,12 @@ use Rattle.protocol.specs.Packets.{is-named, note-of, arrive, deliver}
 use Rattle.protocol.specs.Questions.{is-chare, is-sender, on-wire, packet-questions, deliver-questions}
 use Rattle.protocol.specs.Step.{Outcome, judged}
 use Rattle.state.specs.Outcome.{tried}
-use Rattle.delivery.specs.More.{first-no, first-no-yes, after, asks-no, asks-after, then, asks-then}
+use Rattle.delivery.specs.More.{then, asks-then}
 use Rattle.delivery.specs.Effect.{effect, effect-questions, place-of}
 use Rattle.delivery.specs.NoteEffect.{note-effect, note-questions}
 use Rattle.delivery.specs.Arrival.{put-effect, put-notes, ticket-questions, arrive-back, arrive-notes, arrive-questioned, notes-questioned}
-use Rattle.delivery.specs.Frame.{is-up, in-range, first-questions, delivered}
+use Rattle.state.specs.Asking.{runs}
+use Rattle.delivery.specs.Frame.{in-range, first-questions, delivered}
 
 -- the outcome of a frame with every question answered "yes"
 abbrev pub done : State → Outcome
@@ -40,7 +41,7 @@ module _ (s : State) (k a r n : ℕ) where
   module _ (t : State) where
     in-parts : tried s (deliver-questions s k a r n) t
         ≡ judged s (asks 2 (first-questions (s .job) (s .lost) (s .status) k a r n ++ packet-questions s (on-wire s k a r n)) (done t))
-    unfolding tried deliver-questions first-questions in-range is-up is-sender is-chare up
+    unfolding tried deliver-questions first-questions in-range runs is-sender is-chare up
     in-parts = refl
 
     stopped : (firsts ≡ 0 → ⊥) → tried s (deliver-questions s k a r n) t ≡ record { state = s; answer = Refused firsts }
@@ -48,7 +49,7 @@ module _ (s : State) (k a r n : ℕ) where
     stopped h = in-parts ∙ ap (judged s) (asks-no 2 (first-questions (s .job) (s .lost) (s .status) k a r n) (packet-questions s (on-wire s k a r n)) (done t) h)
 
     passed : firsts ≡ 0 → tried s (deliver-questions s k a r n) t ≡ judged s (asks 6 (packet-questions s (on-wire s k a r n)) (done t))
-    unfolding first-questions after
+    unfolding first-questions
     passed clear =
         let l = first-questions (s .job) (s .lost) (s .status) k a r n in
         in-parts ∙ ap (judged s) (asks-after 2 l (packet-questions s (on-wire s k a r n)) (done t) (first-no-yes 1 l clear))

@@ -6,7 +6,6 @@ pub mod NoteEffect
 pub mod View
 pub mod Arrival
 pub mod Frame
-pub mod FrameLaws
 pub mod Judged
 pub mod Named
 pub mod InPlace

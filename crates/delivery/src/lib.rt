@@ -2,7 +2,7 @@
 pub mod chare;
 
 ghost use mathlib.Core.Path.{_≡_};
-ghost use Rattle.lists.specs.Questions.{asks};
+ghost use Rattle.lists.specs.Questions.{asks, first-no};
 ghost use Rattle.protocol.specs.Packets.{note-of};
 ghost use Rattle.protocol.specs.Questions.{deliver-questions, on-wire};
 ghost use Rattle.notes.specs.View.{noted};
@@ -10,10 +10,9 @@ ghost use Rattle.layout.specs.View.{layout-view};
 ghost use Rattle.wire.specs.View.{waiting, without};
 ghost use Rattle.state.specs.View.{statuses, view};
 ghost use Rattle.state.specs.Outcome.{outcome-view, tried};
-ghost use Rattle.delivery.specs.More.{first-no};
 ghost use Rattle.delivery.specs.NoteEffect.{note-effect, note-questions};
 ghost use Rattle.delivery.specs.View.{note-arrived, answered};
-ghost use Rattle.delivery.specs.Frame.{place-index, is-up, in-range, first-questions, delivered};
+ghost use Rattle.delivery.specs.Frame.{place-index, in-range, first-questions, delivered};
 use chare::Reply;
 use layout::Layout;
 use notes::Notes;
@@ -21,7 +20,6 @@ use protocol::Answer;
 use protocol::Content;
 use protocol::Note;
 use protocol::Packet;
-use protocol::Status;
 use state::Machine;
 use state::State;
 use state::Stepped;
@@ -89,27 +87,6 @@ pub fn answer(words: &mut [u64; 128], len: u8, at: u8, p: Packet, r: Reply) -> u
     }
 }
 
-// The desk's place, number 0, is always up. The crates of the frames stand side by side, so that a change in one moves no other: this
-// function, and the first questions below, have their like in `machines`.
-fn is_up(machines: [Machine; 7], p: u8) -> bool
-    ensures { λ r. ⌜ r ≡ is-up (statuses machines) p ⌝ }
-{
-    let i = p as usize;
-    if i == 0 {
-        return true;
-    }
-    if 7 <= i {
-        return true;
-    }
-    let m = machines[i];
-    let status = m.status;
-    match status {
-        Status::Up => true,
-        Status::Down => false,
-        Status::CatchingUp => true,
-    }
-}
-
 fn in_range(l: Layout, kind: u8, sender: u8, receiver: u8, sn: u16) -> bool
     ensures { λ r. ⌜ r ≡ in-range (layout-view l) kind sender receiver sn ⌝ }
 {
@@ -143,19 +120,13 @@ pub fn judge(
 ) -> u8
     ensures { λ r. ⌜ r ≡ first-no 2 (first-questions (layout-view l) lost (statuses machines) kind sender receiver sn) ⌝ }
 {
-    if !l.set {
-        return 2;
-    }
-    if !in_range(l, kind, sender, receiver, sn) {
-        return 3;
-    }
-    if lost {
-        return 4;
-    }
-    if !is_up(machines, layout::destination(l, kind, sender, receiver)) {
-        return 5;
-    }
-    0
+    let to = layout::destination(l, kind, sender, receiver);
+    state::first_no(
+        l.set,
+        in_range(l, kind, sender, receiver, sn),
+        lost,
+        state::is_up(machines, to),
+    )
 }
 
 // Frame 11. A delivery refused leaves the packet on the wire; one accepted takes it off before an answer is put on.

@@ -4,13 +4,11 @@ use mathlib.Core.List.{List, []}
 use Prim.Native.Nat.{ℕ, zero, suc, _≤_}
 use lib.ListN.{length, getD, replicate}
 use Rattle.arrays.specs.ArrayMap.{as-map, map-beyond}
-use Rattle.protocol.specs.declared.Status.the-variants.{Up}
 use Rattle.protocol.specs.Parts.{blank}
 use Rattle.window.specs.BitLaws.{no-bits}
 use Rattle.notes.specs.declared.Notes.{Notes}
 use Rattle.state.specs.declared.Memory.{Memory}
-use Rattle.state.specs.declared.Machine.{Machine}
-use Rattle.state.specs.View.{memory-view, no-memory, no-machine, no-notes, memories, statuses, note-lists}
+use Rattle.state.specs.View.{memory-view, no-memory, no-notes, memories, note-lists}
 use Rattle.log.specs.Log as log
 use Rattle.table.specs.Table as table
 use Rattle.notes.specs.View as notes
@@ -26,10 +24,6 @@ no-memory-blank = simp no-bits
 pub memories-beyond : (l : List Memory) (c : ℕ) → length l ≤ c → memories l c ≡ blank
 unfolding memories
 memories-beyond l c h = ap memory-view (map-beyond no-memory l c h) ∙ no-memory-blank
-
-pub statuses-beyond : (l : List Machine) (p : ℕ) → length l ≤ p → statuses l p ≡ Up
-unfolding statuses
-statuses-beyond l p h = ap (λ (m : Machine). m .status) (map-beyond no-machine l p h)
 
 -- ---- one element repeated, as good as what stands past the end
 alike : {A B : Type 0} (f : A → B) (d x : A) → f x ≡ f d → (n i : ℕ) → f (as-map d (replicate n x) i) ≡ f d

@@ -1,7 +1,6 @@
 // The frames that act on machines: job and show; the end of catching up; and what checkpoints and crashes share.
 ghost use mathlib.Core.Path.{_≡_};
 ghost use mathlib.Core.Bool.{false, not};
-ghost use mathlib.Core.List.{[], _∷_};
 ghost use Prim.Native.Nat.{_≤_, _<_};
 ghost use Rattle.lists.specs.Questions.{asks};
 ghost use Rattle.lists.specs.Lists.{allb};
@@ -17,10 +16,9 @@ ghost use Rattle.log.specs.Log.{has-ticket};
 ghost use Rattle.state.specs.View.{memory-view, memories, statuses, view};
 ghost use Rattle.state.specs.Outcome.{outcome-view, tried};
 ghost use Rattle.machines.specs.Homes.{residents};
-ghost use Rattle.machines.specs.Shown.{shown, Shows};
+ghost use Rattle.machines.specs.Shown.{shown, shown-by};
 ghost use Rattle.machines.specs.Settle.{calm, passes, reaches, Settles, Settling};
 ghost use Rattle.machines.specs.Chosen.{chosen};
-ghost use Rattle.machines.specs.Asking.{first-no, runs};
 ghost use Rattle.machines.specs.Begin.{first-memories, begin-with, Ready};
 use layout::Layout;
 use protocol::Answer;
@@ -34,51 +32,6 @@ use state::Stepped;
 pub struct Course {
     pub machines: [Machine; 7],
     pub target: [u16; 13],
-}
-
-// The number of the first of questions 2 to 5 that is answered "no", 0 if none is.
-pub fn first_no(set: bool, in_range: bool, lost: bool, up: bool) -> u8
-    ensures { λ r. ⌜ r ≡ first-no 2 (set ∷ in_range ∷ not lost ∷ up ∷ []) ⌝ }
-{
-    if !set {
-        return 2;
-    }
-    if !in_range {
-        return 3;
-    }
-    if lost {
-        return 4;
-    }
-    if !up {
-        return 5;
-    }
-    0
-}
-
-// The status of a machine; a number past the machines' counts as up.
-pub fn status(m: [Machine; 7], p: u8) -> Status
-    ensures { λ r. ⌜ r ≡ statuses m p ⌝ }
-{
-    let i = p as usize;
-    if 7 <= i {
-        return Status::Up;
-    }
-    let k = m[i];
-    k.status
-}
-
-// Machine `p` is not down; the desk's, 0, is always up.
-pub fn is_up(m: [Machine; 7], p: u8) -> bool
-    ensures { λ r. ⌜ r ≡ runs (statuses m) p ⌝ }
-{
-    if p == 0 {
-        return true;
-    }
-    match status(m, p) {
-        Status::Up => true,
-        Status::Down => false,
-        Status::CatchingUp => true,
-    }
 }
 
 // Which chares are on machine `p`; 0 is none.
@@ -195,7 +148,7 @@ pub fn job(s: State, line: &[u8]) -> Stepped
     ensures { λ r. ⌜ outcome-view r ≡ tried (view s) (job-questions (view s) (decoded (now (line .entry)))) (begun (decoded (now (line .entry)))) ⌝ }
 {
     let l = s.layout;
-    let n = first_no(!l.set, layout::job_in_range(line), s.lost, true);
+    let n = state::first_no(!l.set, layout::job_in_range(line), s.lost, true);
     if n != 0 {
         return Stepped {
             state: s,
@@ -211,10 +164,9 @@ pub fn job(s: State, line: &[u8]) -> Stepped
 
 // What a chare shows, by the parts of the state: `x` is the memory at its number.
 pub fn show_by(l: Layout, lost: bool, machines: [Machine; 7], x: Memory, c: u8) -> Answer
-    ensures { λ r. ⌜ Shows l lost machines x c r ⌝ }
+    ensures { λ r. ⌜ r ≡ shown-by (layout-view l) lost (statuses machines) (memory-view x) c ⌝ }
 {
-    let h = layout::home(l, c);
-    let n = first_no(l.set, layout::is_chare(l, c), lost, is_up(machines, h));
+    let n = state::judge_chare(l, lost, machines, c);
     if n != 0 {
         return Answer::Refused(n);
     }
@@ -240,7 +192,7 @@ pub fn show(s: State, c: u8) -> Stepped
 fn is_calm(m: [Machine; 7], strict: bool, p: u8) -> bool
     ensures { λ r. ⌜ r ≡ calm strict (statuses m p) ⌝ }
 {
-    match status(m, p) {
+    match state::status(m, p) {
         Status::Up => true,
         Status::Down => !strict,
         Status::CatchingUp => false,

@@ -17,36 +17,36 @@ use Rattle.window.specs.Bits.{TakenIn}
 use Rattle.state.specs.declared.Memory.{Memory}
 use Rattle.state.specs.View.{memory-view}
 use Rattle.state.specs.Store.{windows-set}
-use Rattle.sending.specs.Verdict.{verdict}
+use Rattle.lists.specs.Questions.{first-no}
 use Rattle.sending.specs.Works.{own-questions, WorkedAs}
 
 module _ (m : Memory) (e : Entry) where
   -- an answer above 0 leaves the memory as it was
-  refused-as : (n : ℕ) → verdict 6 (own-questions (memory-view m) e) ≡ suc n → WorkedAs (memory-view m) e (record { answer = suc n; memory = m })
+  refused-as : (n : ℕ) → first-no 6 (own-questions (memory-view m) e) ≡ suc n → WorkedAs (memory-view m) e (record { answer = suc n; memory = m })
   refused-as n q = record { answer = sym q; memory = λ z. absurd (omega arith) }
 
   pub no-mark : 12 < e .sender → WorkedAs (memory-view m) e (record { answer = 6; memory = m })
-  unfolding verdict own-questions has-mark
+  unfolding first-no own-questions has-mark
   no-mark h = refused-as 5 (rw (lt-leb (e .sender) 12 h))
 
 module _ (m : Memory) (e : Entry) (h : e .sender ≤ 12) where
   pub not-ready : (e .received && e .noted) ≡ false → WorkedAs (memory-view m) e (record { answer = 6; memory = m })
-  unfolding verdict own-questions has-mark
+  unfolding first-no own-questions has-mark
   not-ready f = refused-as m e 5 (rw (le-leb (e .sender) 12 h, f))
 
   pub too-high : (e .received && e .noted) ≡ true → 60000 ≤ m .height → WorkedAs (memory-view m) e (record { answer = 7; memory = m })
-  unfolding verdict own-questions has-mark memory-view
+  unfolding first-no own-questions has-mark memory-view
   too-high f g = refused-as m e 6 (let q : 60000 < m .height + 1 = omega arith in rw (le-leb (e .sender) 12 h, f, lt-leb (m .height + 1) 60000 q))
 
   -- d is the mark and the window that the entry's SN leaves
   module _ (f : (e .received && e .noted) ≡ true) (low : m .height < 60000)
       (d : Slid) (taken : TakenIn (as-map 0 (m .mark) (e .sender)) (as-map 0 (m .window) (e .sender)) (e .sn) d) where
-    asked : verdict 6 (own-questions (memory-view m) e) ≡ verdict 7 (leb (d .mark) 60000 ∷ [])
-    unfolding verdict own-questions has-mark mark-after memory-view
+    asked : first-no 6 (own-questions (memory-view m) e) ≡ first-no 7 (leb (d .mark) 60000 ∷ [])
+    unfolding first-no own-questions has-mark mark-after memory-view
     asked = let q : m .height + 1 ≤ 60000 = omega arith in rw (le-leb (e .sender) 12 h, f, le-leb (m .height + 1) 60000 q, ← taken .mark-risen)
 
     pub mark-too-high : 60000 < d .mark → WorkedAs (memory-view m) e (record { answer = 7; memory = m })
-    unfolding verdict
+    unfolding first-no
     mark-too-high g = refused-as m e 6 (asked ∙ rw (lt-leb (d .mark) 60000 g))
 
     -- w is the state that the value leaves
@@ -71,5 +71,5 @@ module _ (m : Memory) (e : Entry) (h : e .sender ≤ 12) where
           rw (state, map-set 0 (m .mark) (e .sender) (d .mark) i, windows-set (m .window) (e .sender) (d .window) j, taken .mark-risen, taken .window-slid)
 
       pub worked : d .mark ≤ 60000 → WorkedAs (memory-view m) e (record { answer = 0; memory = after })
-      unfolding verdict
+      unfolding first-no
       worked g = record { answer = sym (asked ∙ rw (le-leb (d .mark) 60000 g)); memory = λ z. after-is }

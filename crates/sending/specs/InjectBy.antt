@@ -7,7 +7,7 @@ use borrow.Author.Tests.{leb-true, ltb-true}
 use lib.Dec.{leb}
 use lib.ListN.{length, getD, set}
 use Rattle.lists.specs.Tests.{and-l}
-use Rattle.lists.specs.Questions.{Yes}
+use Rattle.lists.specs.Questions.{Yes, first-no, first-no-yes}
 use Rattle.lists.specs.Map.{upd-self}
 use Rattle.arrays.specs.ArrayMap.{as-map}
 use Rattle.protocol.specs.declared.Message.{Message}
@@ -32,7 +32,7 @@ use Rattle.sending.specs.SentLaws.{remote-sent}
 use Rattle.sending.specs.Store.{chare-index}
 use Rattle.sending.specs.Inject.{room-by, asked-by, desk-asked, desk-remote}
 use Rattle.sending.specs.InPlace.{with-live, memory-put}
-use Rattle.sending.specs.Verdict.{verdict, all-yes, judged-no, judged-yes}
+use Rattle.sending.specs.Verdict.{judged-no, judged-yes}
 
 abbrev pub inject-outcome : State → ℕ → ℕ → ℕ → Outcome
 inject-outcome s c value hops = tried (view s) (inject-questions (view s) c value hops) (send (view s) 0 c value hops)
@@ -44,11 +44,11 @@ unfolding sent ticketed tn-of table-after
 only-logged s x = rw (upd-self (x .receiver) (s .live))
 
 module _ (s : State) (len : ℕ) (size : min len 128 ≡ length (packets (s .wire))) (c value hops n : ℕ)
-    (j : n ≡ verdict 2 (asked-by (layout-view (s .layout)) (s .lost) (memory-view (getD (s .live) 0 no-memory)) (min len 128) c hops)) where
+    (j : n ≡ first-no 2 (asked-by (layout-view (s .layout)) (s .lost) (memory-view (getD (s .live) 0 no-memory)) (min len 128) c hops)) where
   abbrev desk : parts.Memory
   desk = memory-view (getD (s .live) 0 no-memory)
 
-  said : n ≡ verdict 2 (inject-questions (view s) c value hops)
+  said : n ≡ first-no 2 (inject-questions (view s) c value hops)
   unfolding view memories as-map
   said = j ∙ rw (desk-asked (view s) c value hops, size)
 
@@ -58,7 +58,7 @@ module _ (s : State) (len : ℕ) (size : min len 128 ≡ length (packets (s .wir
 
   module _ (none : n ≡ 0) where
     yes-by : Yes (asked-by (layout-view (s .layout)) (s .lost) desk (min len 128) c hops)
-    yes-by = all-yes 1 _ (sym j ∙ none)
+    yes-by = first-no-yes 1 _ (sym j ∙ none)
 
     chare-in : c < 13
     unfolding asked-by

@@ -19,8 +19,9 @@ use Rattle.sending.specs.Placed.{first-plan, second-plan}
 use Rattle.sending.specs.Plan.{last-after, listed}
 use Rattle.sending.specs.Sends.{one-verdict, two-verdict}
 use Rattle.sending.specs.Ticket.{message-after}
-use Rattle.sending.specs.Verdict.{verdict}
-use Rattle.sending.specs.Works.{chare-asked, own-questions}
+use Rattle.lists.specs.Questions.{first-no}
+use Rattle.state.specs.Asking.{chare-asked}
+use Rattle.sending.specs.Works.{own-questions}
 use Rattle.sending.specs.WorkLaws.{listed-none, listed-one, listed-two}
 use Rattle.sending.specs.WorkPlan.{PlanView, drawn, unless-yes, unless-no, one-by, two-by, one-plan, two-plan, sends-plan, entry-plan, next-plan, work-plan}
 
@@ -46,7 +47,7 @@ module _ (j : Job) (x y : Memory) (a b v h wire log n : ℕ) (p : Plan) (p-is : 
     two-made e m m-is l l-is o o-is = rw (m-is, o-is, l-is, q-is, p-is) (unless-yes n _ x _ (n-is ∙ rw (log-is, q-is, p-is)) e)
 
 -- ---- the entry: n is the verdict on it, w the memory with its message worked, rs the receivers
-module _ (j : Job) (x y z : Memory) (wire c : ℕ) (e : Entry) {r : PlanView} (n : ℕ) (n-is : n ≡ verdict 6 (own-questions x e)) where
+module _ (j : Job) (x y z : Memory) (wire c : ℕ) (e : Entry) {r : PlanView} (n : ℕ) (n-is : n ≡ first-no 6 (own-questions x e)) where
   pub entry-refused : (n ≡ 0 → ⊥) → r ≡ drawn n x [] → r ≡ entry-plan j x y z wire c e
   unfolding entry-plan
   entry-refused f q = q ∙ unless-no n _ x _ n-is f
@@ -75,7 +76,7 @@ module _ (j : Job) (x y z : Memory) (wire c : ℕ) (e : Entry) {r : PlanView} (n
         to-second f q = sends (rs .one ∷ []) (listed-one rs a b) (q ∙ rw (ne-eqb (rs .one) (j .first c) f))
 
 -- ---- the chare: n is the verdict on it
-module _ (j : Job) (lost : Bool) (status : ℕ → Status) (x y z : Memory) (wire c : ℕ) {r : PlanView} (n : ℕ) (n-is : n ≡ verdict 2 (chare-asked j lost status c)) where
+module _ (j : Job) (lost : Bool) (status : ℕ → Status) (x y z : Memory) (wire c : ℕ) {r : PlanView} (n : ℕ) (n-is : n ≡ first-no 2 (chare-asked j lost status c)) where
   pub work-refused : (n ≡ 0 → ⊥) → r ≡ drawn n x [] → r ≡ work-plan j lost status x y z wire c
   unfolding work-plan
   work-refused f q = q ∙ unless-no n _ x _ n-is f

@@ -42,7 +42,7 @@ use Rattle.sending.specs.Sends.{one-verdict, two-verdict, tried-sends}
 use Rattle.sending.specs.Store.{chare-index}
 use Rattle.sending.specs.Ticket.{message-after}
 use Rattle.sending.specs.Tried.{sends-refused, sends-made, one-said, one-ready, two-said, first-ready, second-ready}
-use Rattle.sending.specs.Verdict.{verdict}
+use Rattle.lists.specs.Questions.{first-no}
 use Rattle.sending.specs.Works.{chare-questions, own-questions, tried-work, own-passed, none-refused, none-sent}
 use Rattle.sending.specs.WorkLaws.{entry-refused, chare-refused, chare-there, chare-passed}
 use Rattle.sending.specs.WorkPlan.{PlanView, outgoing, plan-view, drawn, unless, one-by, two-by, one-plan, two-plan, sends-plan, entry-plan, next-plan, work-plan}
@@ -199,9 +199,9 @@ module _ (s : parts.State) (c : ℕ) (c-in : c < 13) (first-in : s .job .first c
 
   entry-planned : (e : Entry) → plan-view r ≡ entry-plan (s .job) (s .live c) y z (length (s .wire)) c e → PlannedFor s c (tried-work s c (some e)) r
   unfolding entry-plan unless worked-only work-entry receivers-of value-out hops-out
-  entry-planned e is = go (verdict 6 (own-questions (s .live c) e)) refl is
+  entry-planned e is = go (first-no 6 (own-questions (s .live c) e)) refl is
     where
-      go : (n : ℕ) → n ≡ verdict 6 (own-questions (s .live c) e)
+      go : (n : ℕ) → n ≡ first-no 6 (own-questions (s .live c) e)
           → plan-view r ≡ unless n (s .live c) (sends-plan (s .job) (work-entry (s .live c) e) y z (length (s .wire)) c (receivers (s .job) c (e .hops)) (sent-value (work-entry (s .live c) e .state)) (e .hops - 1))
           → PlannedFor s c (tried-work s c (some e)) r
       go zero n-is is =
@@ -220,9 +220,9 @@ module _ (l : Layout) (b : Bool) (q : List Machine) (x y z : Memory) (len c : �
     (is : plan-view r ≡ work-plan (layout-view l) b (statuses q) (memory-view x) (memory-view y) (memory-view z) (min len 128) c) where
   pub plans : (s : State) → SeesWork s l b q x y z len c → PlannedFor (view s) c (work-outcome s c) r
   unfolding work-plan unless view memories as-map number
-  plans s w = go (verdict 2 (chare-questions (view s) c)) refl (rw (w .layout, w .lost, w .machines) is)
+  plans s w = go (first-no 2 (chare-questions (view s) c)) refl (rw (w .layout, w .lost, w .machines) is)
     where
-      go : (n : ℕ) → n ≡ verdict 2 (chare-questions (view s) c)
+      go : (n : ℕ) → n ≡ first-no 2 (chare-questions (view s) c)
           → plan-view r ≡ unless n (memory-view x) (next-plan (view s .job) (memory-view x) (memory-view y) (memory-view z) (min len 128) c (next-entry (memory-view x)))
           → PlannedFor (view s) c (work-outcome s c) r
       go zero n-is is =

@@ -14,10 +14,11 @@ use Rattle.sending.specs.Plan.{plan-of, plan-after}
 use Rattle.sending.specs.Sends.{one-verdict, two-verdict, sends-questions, tried-sends, one-judged, two-judged}
 use Rattle.sending.specs.Sendable.{Sendable, one-sendable, first-sendable, second-sendable}
 use Rattle.sending.specs.Placed.{first-plan, second-plan, first-is, second-is}
-use Rattle.sending.specs.Verdict.{verdict, judged-no, judged-yes}
+use Rattle.lists.specs.Questions.{first-no}
+use Rattle.sending.specs.Verdict.{judged-no, judged-yes}
 
--- ---- what the verdict n says
-module _ (s w : parts.State) (a : ℕ) (l : List ℕ) (v h n : ℕ) (said : verdict 7 (sends-questions w a l v h) ≡ n) where
+-- ---- what the first-no n says
+module _ (s w : parts.State) (a : ℕ) (l : List ℕ) (v h n : ℕ) (said : first-no 7 (sends-questions w a l v h) ≡ n) where
   pub sends-refused : (n ≡ 0 → ⊥) → tried-sends s w a l v h ≡ record { state = s; answer = Refused n }
   unfolding tried-sends
   sends-refused f = judged-no s 7 (sends-questions w a l v h) _ (λ e. f (sym said ∙ e)) ∙ rw said
@@ -35,10 +36,10 @@ module _ (s : parts.State) (x : parts.Memory) (a b v h : ℕ) (p : Plan) (p-is :
   log-of log l = ap (λ (m : parts.Memory). length (m .log)) (upd-same a x (s .live)) ∙ sym l
 
   pub one-said : (log wire n : ℕ) → log ≡ length (x .log) → wire ≡ length (s .wire) → n ≡ one-verdict p log wire
-      → verdict 7 (sends-questions (with-memory s a x) a (b ∷ []) v h) ≡ n
+      → first-no 7 (sends-questions (with-memory s a x) a (b ∷ []) v h) ≡ n
   one-said log wire n l w e = one-judged (with-memory s a x) a b v h ∙ cc (p-of, log-of log l)
 
-  pub one-ready : verdict 7 (sends-questions (with-memory s a x) a (b ∷ []) v h) ≡ 0 → Sendable (with-memory s a x) a b v h (p .ticket)
+  pub one-ready : first-no 7 (sends-questions (with-memory s a x) a (b ∷ []) v h) ≡ 0 → Sendable (with-memory s a x) a b v h (p .ticket)
   one-ready e = subst (λ (o : Plan). Sendable (with-memory s a x) a b v h (o .ticket)) p-of (one-sendable (with-memory s a x) a b v h e)
 
   -- and the plan q of a second one
@@ -47,12 +48,12 @@ module _ (s : parts.State) (x : parts.Memory) (a b v h : ℕ) (p : Plan) (p-is :
     q-after = q-is ∙ sym (second-is s x a b (p .ticket) d)
 
     pub two-said : (log wire n : ℕ) → log ≡ length (x .log) → wire ≡ length (s .wire) → n ≡ two-verdict p q log wire
-        → verdict 7 (sends-questions (with-memory s a x) a (b ∷ d ∷ []) v h) ≡ n
+        → first-no 7 (sends-questions (with-memory s a x) a (b ∷ d ∷ []) v h) ≡ n
     two-said log wire n l w e =
         two-judged (with-memory s a x) a b v h d
         ∙ cc (p-of, log-of log l, q-after)
 
-    module _ (e : verdict 7 (sends-questions (with-memory s a x) a (b ∷ d ∷ []) v h) ≡ 0) where
+    module _ (e : first-no 7 (sends-questions (with-memory s a x) a (b ∷ d ∷ []) v h) ≡ 0) where
       pub first-ready : Sendable (with-memory s a x) a b v h (p .ticket)
       first-ready = subst (λ (o : Plan). Sendable (with-memory s a x) a b v h (o .ticket)) p-of (first-sendable (with-memory s a x) a b v h d e)
 

@@ -19,8 +19,9 @@ use Rattle.sending.specs.Placed.{first-plan, second-plan}
 use Rattle.sending.specs.Plan.{last-after}
 use Rattle.sending.specs.Sends.{one-verdict, two-verdict}
 use Rattle.sending.specs.Ticket.{message-after}
-use Rattle.sending.specs.Verdict.{verdict}
-use Rattle.sending.specs.Works.{chare-asked, own-questions}
+use Rattle.lists.specs.Questions.{first-no}
+use Rattle.state.specs.Asking.{chare-asked}
+use Rattle.sending.specs.Works.{own-questions}
 
 -- ---- a plan as a value
 pub record PlanView : Type 0 where
@@ -83,7 +84,7 @@ sends-plan j x y z wire c (b ∷ d ∷ l) v h = two-plan j x y z wire c b d v h
 -- ---- the entry's message worked, where its questions are answered "yes", and what is then sent
 unfoldable pub entry-plan : Job → Memory → Memory → Memory → ℕ → ℕ → Entry → PlanView
 entry-plan j x y z wire c e =
-    unless (verdict 6 (own-questions x e)) x
+    unless (first-no 6 (own-questions x e)) x
     (sends-plan j (work-entry x e) y z wire c (receivers j c (e .hops)) (sent-value (work-entry x e .state)) (e .hops - 1))
 
 unfoldable pub next-plan : Job → Memory → Memory → Memory → ℕ → ℕ → Option Entry → PlanView
@@ -92,4 +93,4 @@ next-plan j x y z wire c (some e) = entry-plan j x y z wire c e
 
 -- ---- frame 12
 unfoldable pub work-plan : Job → Bool → (ℕ → Status) → Memory → Memory → Memory → ℕ → ℕ → PlanView
-work-plan j lost status x y z wire c = unless (verdict 2 (chare-asked j lost status c)) x (next-plan j x y z wire c (next-entry x))
+work-plan j lost status x y z wire c = unless (first-no 2 (chare-asked j lost status c)) x (next-plan j x y z wire c (next-entry x))

@@ -1,16 +1,14 @@
 -- Frame 12: what working the next TN leaves, and its questions in two parts.
 use mathlib.Core.Path.{_≡_, refl}
-use mathlib.Core.Bool.{Bool, not, _&&_, _||_}
+use mathlib.Core.Bool.{Bool, _&&_}
 use mathlib.Core.List.{List, [], _∷_}
 use mathlib.Core.Option.{Option, some, none}
 use Prim.Native.Nat.{ℕ, _+_, _≤_}
 use borrow.Author.Tests.{le-leb}
-use lib.Dec.{eqb, leb}
+use lib.Dec.{leb}
 use lib.ListN.{length}
-use Rattle.lists.specs.Questions.{asks}
+use Rattle.lists.specs.Questions.{asks, first-no}
 use Rattle.protocol.specs.declared.Entry.{Entry}
-use Rattle.protocol.specs.declared.Status.{Status}
-use Rattle.protocol.specs.Frames.{between}
 use Rattle.protocol.specs.declared.Answer.the-variants.{Accepted, Refused}
 use Rattle.protocol.specs.Parts as parts
 use Rattle.protocol.specs.Sending.{send-all}
@@ -19,20 +17,18 @@ use Rattle.protocol.specs.Questions.{is-chare, mark-after, has-mark, work-quest
 use Rattle.protocol.specs.Step.{Outcome, judged}
 use Rattle.state.specs.declared.Memory.{Memory}
 use Rattle.state.specs.View.{memory-view}
+use Rattle.state.specs.Asking.{runs, chare-asked}
 use Rattle.state.specs.Outcome.{tried}
 use Rattle.sending.specs.declared.entry.Worked.{Worked}
 use Rattle.sending.specs.Sends.{sends-questions, tried-sends}
-use Rattle.sending.specs.Verdict.{verdict, stopped, passed, part-stopped, part-passed}
+use Rattle.sending.specs.Verdict.{stopped, passed, part-stopped, part-passed}
 
 -- the state after a work: with no next entry it stays
 unfoldable pub worked-state : parts.State → ℕ → Option Entry → parts.State
 worked-state s c none = s
 worked-state s c (some e) = work-next s c e
 
--- 2 to 5 by the parts that they read, and in a state
-unfoldable pub chare-asked : parts.Job → Bool → (ℕ → Status) → ℕ → List Bool
-chare-asked j lost status c = j .set ∷ between 1 (j .chares) c ∷ not lost ∷ (eqb (j .home c) 0 || not (parts.is-down (status (j .home c)))) ∷ []
-
+-- 2 to 5
 abbrev pub chare-questions : parts.State → ℕ → List Bool
 chare-questions s c = chare-asked (s .job) (s .lost) (s .status) c
 
@@ -45,16 +41,16 @@ unfoldable pub own-questions : parts.Memory → Entry → List Bool
 own-questions m e = (has-mark e && (e .received && e .noted)) ∷ (leb (m .height + 1) 60000 && leb (mark-after m e) 60000) ∷ []
 
 pub record WorkedAs (m : parts.Memory) (e : Entry) (r : Worked) : Type 0 where
-  pub answer : r .answer ≡ verdict 6 (own-questions m e)
+  pub answer : r .answer ≡ first-no 6 (own-questions m e)
   pub memory : r .answer ≡ 0 → memory-view (r .memory) ≡ work-entry m e
 
 module _ (s : parts.State) (c : ℕ) where
-  pub work-tried : verdict 2 (chare-questions s c) ≡ 0 → tried s (work-questions s c) (worked-state s c (next-entry (s .live c))) ≡ tried-work s c (next-entry (s .live c))
-  unfolding tried tried-work work-questions chare-asked is-chare parts.up
+  pub work-tried : first-no 2 (chare-questions s c) ≡ 0 → tried s (work-questions s c) (worked-state s c (next-entry (s .live c))) ≡ tried-work s c (next-entry (s .live c))
+  unfolding tried tried-work work-questions chare-asked is-chare parts.up runs
   work-tried e = passed s (entry-questions s c (next-entry (s .live c))) _ 1 (chare-questions s c) e
 
-  pub work-refused : (verdict 2 (chare-questions s c) ≡ 0 → ⊥) → (t : parts.State) → tried s (work-questions s c) t ≡ record { state = s; answer = Refused (verdict 2 (chare-questions s c)) }
-  unfolding tried work-questions chare-asked is-chare parts.up
+  pub work-refused : (first-no 2 (chare-questions s c) ≡ 0 → ⊥) → (t : parts.State) → tried s (work-questions s c) t ≡ record { state = s; answer = Refused (first-no 2 (chare-questions s c)) }
+  unfolding tried work-questions chare-asked is-chare parts.up runs
   work-refused h t = stopped s (entry-questions s c (next-entry (s .live c))) _ 2 (chare-questions s c) h
 
   pub none-refused : tried-work s c none ≡ record { state = s; answer = Refused 6 }
@@ -62,11 +58,11 @@ module _ (s : parts.State) (c : ℕ) where
   none-refused = refl
 
   module _ (e : Entry) where
-    pub own-refused : (verdict 6 (own-questions (s .live c) e) ≡ 0 → ⊥) → tried-work s c (some e) ≡ record { state = s; answer = Refused (verdict 6 (own-questions (s .live c) e)) }
+    pub own-refused : (first-no 6 (own-questions (s .live c) e) ≡ 0 → ⊥) → tried-work s c (some e) ≡ record { state = s; answer = Refused (first-no 6 (own-questions (s .live c) e)) }
     unfolding tried-work entry-questions own-questions
     own-refused h = part-stopped s _ _ 6 (has-mark e && (e .received && e .noted)) (leb (s .live c .height + 1) 60000) (leb (mark-after (s .live c) e) 60000) _ h
 
-    pub own-passed : verdict 6 (own-questions (s .live c) e) ≡ 0 → tried-work s c (some e) ≡ tried-sends s (worked-only s c e) c (receivers-of s c e) (value-out s c e) (hops-out e)
+    pub own-passed : first-no 6 (own-questions (s .live c) e) ≡ 0 → tried-work s c (some e) ≡ tried-sends s (worked-only s c e) c (receivers-of s c e) (value-out s c e) (hops-out e)
     unfolding tried-work tried-sends entry-questions own-questions worked-state work-next put-to-sends sends-questions
     own-passed h = part-passed s _ _ 5 (has-mark e && (e .received && e .noted)) (leb (s .live c .height + 1) 60000) (leb (mark-after (s .live c) e) 60000) _ h
 

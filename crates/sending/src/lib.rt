@@ -20,7 +20,6 @@ ghost use Rattle.sending.specs.Works.{worked-state};
 ghost use Rattle.sending.specs.Places.{places-of};
 ghost use Rattle.sending.specs.WorkPlan.{plan-view, work-plan};
 use entry::next_entry;
-use judge::judge_chare;
 use judge::judge_inject;
 use layout::Layout;
 use message::log_message;
@@ -86,7 +85,7 @@ pub fn plan_work(
 ) -> Planned
     ensures { λ r. ⌜ plan-view r ≡ work-plan (layout-view layout) lost (statuses machines) (memory-view x) (memory-view y) (memory-view z) (min len 128) chare ⌝ }
 {
-    let no = judge_chare(layout, lost, machines, chare);
+    let no = state::judge_chare(layout, lost, machines, chare);
     if no != 0 {
         return only(no, x);
     }

@@ -3,3 +3,4 @@ pub mod View
 pub mod Store
 pub mod Outcome
 pub mod Number
+pub mod Asking

@@ -1,6 +1,12 @@
 // Everything that job, machines, wire and copies hold, by value. Index 0 of `live` is the desk; of the machines it is not used.
 ghost use mathlib.Core.Path.{_≡_};
+ghost use mathlib.Core.Bool.{not};
+ghost use mathlib.Core.List.{[], _∷_};
+ghost use Rattle.lists.specs.Questions.{first-no};
+ghost use Rattle.layout.specs.View.{layout-view};
+ghost use Rattle.state.specs.Asking.{runs, chare-asked};
 ghost use Rattle.state.specs.Number.{number};
+ghost use Rattle.state.specs.View.{statuses};
 use layout::Layout;
 use log::Log;
 use notes::Notes;
@@ -47,4 +53,57 @@ pub fn number(c: u8) -> u8
     ensures { λ r. ⌜ r ≡ number c ⌝ }
 {
     if c < 13 { c } else { 0 }
+}
+
+// The number of the first of questions 2 to 5 that is answered "no", 0 if none is.
+pub fn first_no(set: bool, in_range: bool, lost: bool, up: bool) -> u8
+    ensures { λ r. ⌜ r ≡ first-no 2 (set ∷ in_range ∷ not lost ∷ up ∷ []) ⌝ }
+{
+    if !set {
+        return 2;
+    }
+    if !in_range {
+        return 3;
+    }
+    if lost {
+        return 4;
+    }
+    if !up {
+        return 5;
+    }
+    0
+}
+
+// The status of a machine; a number past the machines' counts as up.
+pub fn status(m: [Machine; 7], p: u8) -> Status
+    ensures { λ r. ⌜ r ≡ statuses m p ⌝ }
+{
+    let i = p as usize;
+    if 7 <= i {
+        return Status::Up;
+    }
+    let k = m[i];
+    k.status
+}
+
+// Machine `p` is not down; the desk's, 0, is always up.
+pub fn is_up(m: [Machine; 7], p: u8) -> bool
+    ensures { λ r. ⌜ r ≡ runs (statuses m) p ⌝ }
+{
+    if p == 0 {
+        return true;
+    }
+    match status(m, p) {
+        Status::Up => true,
+        Status::Down => false,
+        Status::CatchingUp => true,
+    }
+}
+
+// The questions 2 to 5 of a frame on a chare: the first "no", or 0.
+pub fn judge_chare(l: Layout, lost: bool, m: [Machine; 7], c: u8) -> u8
+    ensures { λ r. ⌜ r ≡ first-no 2 (chare-asked (layout-view l) lost (statuses m) c) ⌝ }
+{
+    let h = layout::home(l, c);
+    first_no(l.set, layout::is_chare(l, c), lost, is_up(m, h))
 }

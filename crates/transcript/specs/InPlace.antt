@@ -24,10 +24,10 @@ use Rattle.state.specs.Number.{number}
 use Rattle.state.specs.Outcome.{outcome-view}
 use Rattle.machines.specs.declared.Course.{Course}
 use Rattle.machines.specs.Settle.{Runs, with-course}
-use Rattle.machines.specs.Shown.{Shows}
+use Rattle.machines.specs.Shown.{shown-by, shows}
 use Rattle.machines.specs.Standing.{holding}
 use Rattle.checkpoints.specs.Swept.{Swept, swept-end, with-machine}
-use Rattle.checkpoints.specs.Whole.{Judges, checkpoint-refused, checkpoint-done, checkpoint-in}
+use Rattle.checkpoints.specs.Whole.{asked-by, checkpoint-refused, checkpoint-done, checkpoint-in}
 use Rattle.wire.specs.declared.Wire.{Wire}
 use Rattle.wire.specs.Laws.{packets-fit}
 use Rattle.wire.specs.View.{waiting, packets}
@@ -38,7 +38,9 @@ use Rattle.sending.specs.InPlace.{Sending, worked-in, with-live, sending-end}
 use Rattle.sending.specs.InjectBy.{inject-outcome}
 use Rattle.sending.specs.declared.Places.{Places}
 use Rattle.sending.specs.Places.{places-of, sees-work}
-use Rattle.sending.specs.Planned.{Plans, PlannedFor, work-outcome}
+use Rattle.sending.specs.Planned.{PlannedFor, work-outcome}
+use Rattle.sending.specs.PlannedLaws.{plans}
+use Rattle.sending.specs.WorkPlan.{plan-view, work-plan}
 use Rattle.engine.specs.Play.{settle-after, must-settle, nothing-settles, something-settles}
 use Rattle.engine.specs.Dispatch.{acted, steps}
 
@@ -69,10 +71,9 @@ unfolding packets
 held-size w h e = omega (arith, e, packets-fit w)
 
 pub planned : (s : State) (c : ℕ) (p : Places) → p ≡ places-of (layout-view (s .layout)) c → (h : ℕ) → h ≡ length (waiting (s .wire .words) (s .wire .len)) → (r : Planned)
-    → Plans (s .layout) (s .lost) (s .machines) (getD (s .live) (p .a) no-memory) (getD (s .live) (p .b) no-memory) (getD (s .live) (p .c) no-memory) h c r
+    → plan-view r ≡ work-plan (layout-view (s .layout)) (s .lost) (statuses (s .machines)) (memory-view (getD (s .live) (p .a) no-memory)) (memory-view (getD (s .live) (p .b) no-memory)) (memory-view (getD (s .live) (p .c) no-memory)) (min h 128) c
     → PlannedFor (view s) c (work-outcome s c) r
-unfolding Plans
-planned s c p at h e r plans = plans s (sees-work s c p at h (held-size (s .wire) h e))
+planned s c p at h e r is = plans _ _ _ _ _ _ _ _ _ is s (sees-work s c p at h (held-size (s .wire) h e))
 
 -- ---- the frames: f is known
 module _ (s : State) (l : Line) (f : Frame) (t : State) (answer : Answer) where
@@ -85,10 +86,10 @@ module _ (s : State) (l : Line) (f : Frame) (t : State) (answer : Answer) where
     unfolding acted
     by-garbled is left told = rw (is, left, told) (record { sized = z; outcome = refl })
 
-    pub by-show : (c i : ℕ) (r : Answer) → f ≡ Show c → i ≡ number c → Shows (s .layout) (s .lost) (s .machines) (getD (s .live) i no-memory) c r
+    pub by-show : (c i : ℕ) (r : Answer) → f ≡ Show c → i ≡ number c → r ≡ shown-by (layout-view (s .layout)) (s .lost) (statuses (s .machines)) (memory-view (getD (s .live) i no-memory)) c
         → t ≡ s → answer ≡ r → Acts s l f t answer
-    unfolding acted outcome-view Shows
-    by-show c i r is at w left told = rw (is, left, told) (record { sized = z; outcome = w s refl refl refl (rw at) })
+    unfolding acted outcome-view
+    by-show c i r is at w left told = rw (is, left, told) (record { sized = z; outcome = shows s c i at r w })
 
     -- an inject that is refused, or changes the desk's memory and the wire
     module _ (c value hops : ℕ) (is : f ≡ Inject c value hops) where
@@ -142,7 +143,7 @@ module _ (s : State) (l : Line) (f : Frame) (t : State) (answer : Answer) where
           rw (is, left, told) (record { sized = record { machines = z .machines; live = z .live; copy = z .copy; notes = simp length-set (z .notes) }; outcome = e })
 
     -- a checkpoint, by the number of the first question that is answered "no"
-    module _ (p n : ℕ) (is : f ≡ Checkpoint p) (e : Judges (s .layout) (s .lost) (s .machines) p n) where
+    module _ (p n : ℕ) (is : f ≡ Checkpoint p) (e : n ≡ first-no 2 (asked-by (layout-view (s .layout)) (s .lost) (statuses (s .machines)) p)) where
       pub by-checkpoint-refused : n ≢ 0 → t ≡ s → answer ≡ Refused n → Acts s l f t answer
       unfolding acted outcome-view
       by-checkpoint-refused h left told = rw (is, left, told) (record { sized = z; outcome = checkpoint-refused s p n e h })

@@ -2,7 +2,7 @@
 ghost use mathlib.Core.Path.{_≡_};
 ghost use mathlib.Core.List.{_++_};
 ghost use Prim.Native.Nat.{_+_, _-_, _≤_, min};
-ghost use lib.ListN.{length, take, drop};
+ghost use lib.ListN.{length, take};
 ghost use Rattle.transcript.specs.Reading.{beginning, printed};
 ghost use Rattle.transcript.specs.LineWise.{line-end};
 ghost use Rattle.transcript.specs.Copies.{put-at};

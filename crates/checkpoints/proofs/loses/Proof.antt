@@ -2,7 +2,7 @@
 use mathlib.Core.Path.{sym, ap, _∙_}
 use borrow.Author.Needs.{needs}
 use Rattle.state.specs.View.{memory-view}
-use Rattle.machines.specs.Asking.{runs}
+use Rattle.state.specs.Asking.{runs}
 use Rattle.checkpoints.specs.Visit.{loses-none, loses-some}
 use Rattle.checkpoints.proofs.loses.Statement.{statement}
 use Rattle.checkpoints.proofs.loses.Tie as tie

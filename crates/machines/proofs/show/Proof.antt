@@ -1,7 +1,6 @@
 -- `show`: the memory is taken out at the chare's number.
-use mathlib.Core.Path.{refl}
 use Rattle.state.specs.Number.{number-top}
-use Rattle.machines.specs.Shown.{Shows}
+use Rattle.machines.specs.Shown.{shows}
 use borrow.Author.Needs.{needs}
 use Rattle.machines.proofs.show.Statement.{statement}
 use Rattle.machines.proofs.show.Tie as tie
@@ -22,8 +21,7 @@ show-by-requires : tie.Need-show-by-requires
 show-by-requires c κs = search needs
 
 returns : tie.Need-returns
-unfolding Shows
-returns c = c .show-by .ensures (c .before .before .before .before .before .args .t1) refl refl refl (rw (c .before .before .number .ensures))
+returns c = shows _ _ _ (c .before .before .number .ensures) _ (c .show-by .ensures)
 
 pub show-spec : {M : Type 1} → statement M
 show-spec =

@@ -5,8 +5,8 @@ use borrow.Author.Needs.{needs}
 use Rattle.table.specs.Table.{found-entry}
 use Rattle.sending.specs.PlanSteps.{work-refused, no-entry, some-entry}
 use Rattle.sending.specs.Store.{chare-index}
-use Rattle.sending.specs.Verdict.{all-yes}
-use Rattle.sending.specs.Works.{chare-asked}
+use Rattle.lists.specs.Questions.{first-no-yes}
+use Rattle.state.specs.Asking.{chare-asked}
 use Rattle.sending.proofs.plan_work.Statement.{statement}
 use Rattle.sending.proofs.plan_work.Tie as tie
 
@@ -36,7 +36,7 @@ unfolding chare-asked
 chare-in c =
     let j = c .before in
     let a = j .before .args in
-    chare-index (a .layout) (a .chare) (all-yes 1 _ (sym (j .judge-chare .ensures) ∙ c .if1 .left) .1 .0)
+    chare-index (a .layout) (a .chare) (first-no-yes 1 _ (sym (j .judge-chare .ensures) ∙ c .if1 .left) .1 .0)
 
 plan-entry-requires : tie.Need-plan-entry-requires
 plan-entry-requires c κs = chare-in (c .before .before .before .before)

@@ -11,20 +11,21 @@ use Rattle.protocol.specs.Frames.{between}
 use Rattle.layout.specs.View.{layout-view}
 use Rattle.state.specs.View.{memory-view}
 use Rattle.sending.specs.Store.{chare-index}
-use Rattle.sending.specs.Verdict.{verdict, was-false, was-true}
+use Rattle.lists.specs.Questions.{first-no}
+use Rattle.sending.specs.Verdict.{was-false, was-true}
 use Rattle.sending.specs.Inject.{room-by, asked-by}
 use Rattle.sending.proofs.judge.judge_inject.Statement.{statement}
 use Rattle.sending.proofs.judge.judge_inject.Tie as tie
 
 returns : tie.Need-returns
-unfolding verdict asked-by layout-view
+unfolding first-no asked-by layout-view
 returns c = let a = c .before .before .args in rw (was-false (a .l .set) (c .if1 .taken))
 
 is-chare-requires : tie.Need-is-chare-requires
 is-chare-requires c κs = search needs
 
 returns-2 : tie.Need-returns-2
-unfolding verdict asked-by layout-view
+unfolding first-no asked-by layout-view
 returns-2 c =
     let a = c .before .before .before .before .args in
     let i = c .before .is-chare in
@@ -39,20 +40,20 @@ chare-known : (c : tie.Else2) → let a = c .before .before .before .before .arg
 chare-known c = let i = c .before .is-chare in sym (i .ensures) ∙ was-true (i .result) (c .if2 .left)
 
 returns-3 : tie.Need-returns-3
-unfolding verdict asked-by
+unfolding first-no asked-by
 returns-3 c =
     let a = c .before .before .before .before .before .args in
     rw (set-known (c .before), chare-known (c .before), lt-leb (a .hops) 7 (c .if3 .taken))
 
 returns-4 : tie.Need-returns-4
-unfolding verdict asked-by
+unfolding first-no asked-by
 returns-4 c =
     let a = c .before .before .before .before .before .before .args in
     rw (set-known (c .before .before), chare-known (c .before .before), le-leb (a .hops) 7 (c .before .if3 .left), c .if4 .taken)
 
 -- 2 to 4 passed
-passed : (c : tie.Else4) → let a = c .before .before .before .before .before .before .args in verdict 7 (room-by (memory-view (a .t3)) (min (a .len) 128) (a .chare)) ≡ verdict 2 (asked-by (layout-view (a .l)) (a .lost) (memory-view (a .t3)) (min (a .len) 128) (a .chare) (a .hops))
-unfolding verdict asked-by
+passed : (c : tie.Else4) → let a = c .before .before .before .before .before .before .args in first-no 7 (room-by (memory-view (a .t3)) (min (a .len) 128) (a .chare)) ≡ first-no 2 (asked-by (layout-view (a .l)) (a .lost) (memory-view (a .t3)) (min (a .len) 128) (a .chare) (a .hops))
+unfolding first-no asked-by
 passed c =
     let a = c .before .before .before .before .before .before .args in
     rw (set-known (c .before .before), chare-known (c .before .before), le-leb (a .hops) 7 (c .before .if3 .left), c .if4 .left)
@@ -66,7 +67,7 @@ element-copy-out-if5 c =
     chare-index (a .l) (a .chare) (chare-known (c .before .before))
 
 returns-5 : tie.Need-returns-5
-unfolding verdict room-by memory-view as-map
+unfolding first-no room-by memory-view as-map
 returns-5 c =
     let a = c .before .before .before .before .before .before .before .before .args in
     let x = memory-view (a .t3) in
@@ -76,7 +77,7 @@ count-requires : tie.Need-count-requires
 count-requires c κs = search needs
 
 returns-6 : tie.Need-returns-6
-unfolding verdict room-by memory-view as-map
+unfolding first-no room-by memory-view as-map
 returns-6 c =
     let a = c .before .before .before .before .before .before .before .before .before .before .before .args in
     let x = memory-view (a .t3) in
@@ -86,14 +87,14 @@ held-requires : tie.Need-held-requires
 held-requires c κs = search needs
 
 returns-7 : tie.Need-returns-7
-unfolding verdict room-by memory-view as-map
+unfolding first-no room-by memory-view as-map
 returns-7 c =
     let a = c .before .before .before .before .before .before .before .before .before .before .before .before .before .args in
     let x = memory-view (a .t3) in
     rw (← passed (c .before .before .before .before .before .before .before), le-leb (x .sn (a .chare) + 1) 60000 (omega (arith, c .before .before .before .before .before .if5 .left)), lt-ltb (length (x .log)) 16 (omega (arith, c .before .before .before .count .ensures, c .before .before .if6 .left)), lt-leb (min (a .len) 128 + 1) 128 (omega (arith, c .before .held .ensures, c .if7 .taken)))
 
 returns-8 : tie.Need-returns-8
-unfolding verdict room-by memory-view as-map
+unfolding first-no room-by memory-view as-map
 returns-8 c =
     let a = c .before .before .before .before .before .before .before .before .before .before .before .before .before .args in
     let x = memory-view (a .t3) in

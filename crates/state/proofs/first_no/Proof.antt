@@ -1,8 +1,8 @@
 -- `first_no` gives the number of the first question answered "no": one branch for each.
 use borrow.Author.Tests.{not-true, not-false}
-use Rattle.machines.specs.Asking.{first-no}
-use Rattle.machines.proofs.first_no.Statement.{statement}
-use Rattle.machines.proofs.first_no.Tie as tie
+use Rattle.lists.specs.Questions.{first-no}
+use Rattle.state.proofs.first_no.Statement.{statement}
+use Rattle.state.proofs.first_no.Tie as tie
 
 returns : tie.Need-returns
 unfolding first-no

@@ -5,10 +5,10 @@ use borrow.Author.Needs.{needs}
 use lib.ListN.{length}
 use Rattle.arrays.specs.Front.{long}
 use Rattle.arrays.specs.ArrayMap.{as-map}
-use Rattle.machines.specs.Beyond.{statuses-beyond}
+use Rattle.state.specs.Asking.{statuses-beyond}
 use Rattle.state.specs.View.{statuses}
-use Rattle.machines.proofs.status.Statement.{statement}
-use Rattle.machines.proofs.status.Tie as tie
+use Rattle.state.proofs.status.Statement.{statement}
+use Rattle.state.proofs.status.Tie as tie
 
 returns : tie.Need-returns
 returns c =

@@ -2,9 +2,9 @@
 use borrow.Author.Tests.{eq-eqb, ne-eqb}
 use borrow.Author.Needs.{needs}
 use Rattle.protocol.specs.Parts.{is-down}
-use Rattle.machines.specs.Asking.{runs}
-use Rattle.machines.proofs.is_up.Statement.{statement}
-use Rattle.machines.proofs.is_up.Tie as tie
+use Rattle.state.specs.Asking.{runs}
+use Rattle.state.proofs.is_up.Statement.{statement}
+use Rattle.state.proofs.is_up.Tie as tie
 
 returns : tie.Need-returns
 unfolding runs
