@@ -30,7 +30,7 @@ use Rattle.wire.specs.View.{packets, waiting, without, found, sought}
 use Rattle.state.specs.declared.Memory.{Memory}
 use Rattle.state.specs.declared.State.{State}
 use Rattle.state.specs.View.{memory-view, memories, no-memory, no-notes, note-lists, statuses, view}
-use Rattle.state.specs.Store.{memories-set, note-lists-set}
+use Rattle.state.specs.Store.{with-live, memory-put, note-lists-set}
 use Rattle.state.specs.Outcome.{outcome-view}
 use Rattle.delivery.specs.declared.chare.Reply.{Reply}
 use Rattle.delivery.specs.declared.chare.Reply.the-variants.{Nothing, Send}
@@ -48,7 +48,7 @@ use Rattle.delivery.specs.Named.{place-top, home-small, packet-room, rec
 -- ---- the parts that a delivery may change
 -- the memory of chare i, and the wire
 abbrev pub chare-changed : State → ℕ → Memory → ℕ → List ℕ → State
-chare-changed s i m len words = record { layout = s .layout; lost = s .lost; machines = s .machines; target = s .target; live = set (s .live) i m; copy = s .copy; notes = s .notes; wire = record { len = len; words = words } }
+chare-changed s i m len words = with-live s (set (s .live) i m) (record { len = len; words = words })
 
 -- the note list for machine h, and the wire
 abbrev pub notes-changed : State → ℕ → Notes → ℕ → List ℕ → State
@@ -57,7 +57,7 @@ notes-changed s h f len words = record { layout = s .layout; lost = s .lost; mac
 module _ (s : State) (len : ℕ) (words : List ℕ) where
   chare-viewed : (i : ℕ) (m : Memory) → i < length (s .live) → view (chare-changed s i m len words) ≡ parts.with-wire (parts.with-memory (view s) i (memory-view m)) (waiting words len)
   unfolding view packets
-  chare-viewed i m h = ap (λ g. parts.with-wire (parts.with-live (view s) g) (waiting words len)) (memories-set (s .live) i m h)
+  chare-viewed i m h = memory-put s i m _ h
 
   notes-viewed : (h : ℕ) (f : Notes) → h < length (s .notes) → view (notes-changed s h f len words) ≡ parts.with-wire (parts.with-notes (view s) (upd h (noted f) (view s .notes))) (waiting words len)
   unfolding view packets

@@ -1,25 +1,24 @@
 -- The end of catching up, on the parts that it reads and changes.
 use mathlib.Core.Path.{_≡_, refl, _∙_}
-use mathlib.Core.Bool.{Bool, true, false, not, _&&_, _||_}
-use mathlib.Core.List.{List}
+use mathlib.Core.Bool.{Bool, true, false, cond, not, _&&_, _||_}
+use mathlib.Core.List.{List, [], _∷_}
 use Prim.Native.Nat.{ℕ, _<_, _≤_}
 use borrow.Author.Tests.{lt-leb, le-leb}
 use lib.Dec.{leb}
 use lib.ListN.{getD, replicate}
 use Rattle.lists.specs.Lists.{allb}
+use Rattle.lists.specs.Map.{upd}
 use Rattle.arrays.specs.ArrayMap.{as-map, map-blank}
 use Rattle.protocol.specs.declared.Status.{Status}
 use Rattle.protocol.specs.declared.Status.the-variants.{Up, Down, CatchingUp}
-use Rattle.protocol.specs.Parts.{Job, State, on, with-status, is-down, is-catching-up, every-machine, every-chare}
-use Rattle.protocol.specs.Restart.{settle-machine, settle}
+use Rattle.protocol.specs.Parts.{Job, State, on, is-down, is-catching-up, every-machine, every-chare}
+use Rattle.protocol.specs.Restart.{settle}
 use Rattle.layout.specs.declared.Layout.{Layout}
-use Rattle.layout.specs.View.{layout-view}
 use Rattle.layout.specs.Loops.{each}
-use Rattle.log.specs.Log.{has-ticket}
 use Rattle.state.specs.declared.Machine.{Machine}
 use Rattle.state.specs.declared.Memory.{Memory}
 use Rattle.state.specs.View.{view, statuses, helds}
-use Rattle.machines.specs.Readings.{heights-of, waits-of}
+use Rattle.machines.specs.Chosen.{chosen}
 use Rattle.machines.specs.declared.Course.{Course}
 use Rattle.state.specs.declared.State as code
 
@@ -40,10 +39,6 @@ unfolding calm is-catching-up
 calm-settled Up = refl
 calm-settled Down = refl
 calm-settled CatchingUp = refl
-
--- a state with the machines where q has them
-unfoldable pub at : State → Course → State
-at s q = with-status s (statuses (q .machines)) (as-map 0 (q .target))
 
 -- chare c is none of the machine's, or has caught up
 unfoldable pub passes : (ℕ → Bool) → (ℕ → ℕ) → (ℕ → Bool) → (ℕ → ℕ) → ℕ → Bool
@@ -97,10 +92,29 @@ module _ (j : Job) (status : ℕ → Status) (target heights : List ℕ) (p : �
     pub lags-not : all-there ≡ true → lagging ≡ false
     lags-not e = is-lagging ∙ rw e
 
--- r is q after machine p settles, in every state with that layout, these heights and these logs
-pub record Settles (l : Layout) (heights : List ℕ) (waits : List Bool) (p : ℕ) (q r : Course) : Type 0 where
-  pub settled : (s : State) → layout-view l ≡ s .job → as-map 0 heights ≡ (λ c. s .live c .height) → as-map false waits ≡ (λ c. not (allb has-ticket (s .live c .log))) → at s r ≡ settle-machine (at s q) p
-  pub held : helds (r .machines) ≡ helds (q .machines)
+-- ---- how far machines are, as maps
+pub record CourseView : Type 0 where
+  pub status : ℕ → Status
+  pub held : ℕ → Bool
+  pub target : ℕ → ℕ
+
+unfoldable pub course-view : Course → CourseView
+course-view q = record { status = statuses (q .machines); held = helds (q .machines); target = as-map 0 (q .target) }
+
+-- machine p is done catching up, by the chares' heights and whose logs wait; it is up then, and its chares have no target any more
+module _ (j : Job) (height : ℕ → ℕ) (waits : ℕ → Bool) where
+  unfoldable pub settle-by : CourseView → ℕ → CourseView
+  settle-by q p =
+      cond (not (calm false (q .status p)) && allb (passes (on j p) height waits (q .target)) every-chare)
+      (record { status = upd p Up (q .status); held = q .held; target = chosen (on j p) (λ _. 0) (q .target) })
+      q
+
+  unfoldable pub settle-each : CourseView → List ℕ → CourseView
+  settle-each q [] = q
+  settle-each q (p ∷ l) = settle-each (settle-by q p) l
+
+  unfoldable pub settled-by : CourseView → CourseView
+  settled-by q = settle-each q every-machine
 
 -- a state of the code with the machines where q has them
 abbrev pub with-course : code.State → Course → code.State
@@ -109,10 +123,6 @@ with-course s q = record { layout = s .layout; lost = s .lost; machines = q .mac
 -- r is where the machines are after all settle, in every state with these parts
 unfoldable pub Runs : Layout → List Machine → List ℕ → List Memory → Course → Type 0
 Runs l machines target live r = (s : code.State) → s .layout ≡ l → s .machines ≡ machines → s .target ≡ target → s .live ≡ live → view (with-course s r) ≡ settle (view s)
-
--- the same by the heights and by whose logs wait, of any memories that have these
-unfoldable pub Settling : Layout → List Machine → List ℕ → List ℕ → List Bool → Course → Type 0
-Settling l machines target heights waits r = (live : List Memory) → as-map 0 heights ≡ heights-of live → as-map false waits ≡ waits-of live → Runs l machines target live r
 
 -- ---- the loops
 pub each-machine : (f : ℕ → Bool) → allb f every-machine ≡ each f 6 1

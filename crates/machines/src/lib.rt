@@ -17,7 +17,7 @@ ghost use Rattle.state.specs.View.{memory-view, memories, statuses, view};
 ghost use Rattle.state.specs.Outcome.{outcome-view, tried};
 ghost use Rattle.machines.specs.Homes.{residents};
 ghost use Rattle.machines.specs.Shown.{shown, shown-by};
-ghost use Rattle.machines.specs.Settle.{calm, passes, reaches, Settles, Settling};
+ghost use Rattle.machines.specs.Settle.{calm, passes, reaches, course-view, settle-by, settled-by};
 ghost use Rattle.machines.specs.Chosen.{chosen};
 ghost use Rattle.machines.specs.Begin.{first-memories, begin-with, Ready};
 use layout::Layout;
@@ -292,7 +292,7 @@ pub fn reached(l: Layout, machines: [Machine; 7], target: [u16; 13], heights: [u
 // Machine `p` is up, if it is done catching up, and its chares have no target any more.
 fn settle_machine(q: Course, l: Layout, heights: [u16; 13], waits: [bool; 13], p: u8) -> Course
     requires { ⌜ (1 ≤ p) × (p ≤ 6) ⌝ }
-    ensures { λ r. ⌜ Settles l heights waits p q r ⌝ }
+    ensures { λ r. ⌜ course-view r ≡ settle-by (layout-view l) (as-map 0 heights) (as-map false waits) (course-view q) p ⌝ }
 {
     let m = q.machines;
     if is_calm(m, false, p) {
@@ -322,7 +322,7 @@ pub fn settled(
     heights: [u16; 13],
     waits: [bool; 13],
 ) -> Course
-    ensures { λ r. ⌜ Settling l machines target heights waits r ⌝ }
+    ensures { λ r. ⌜ course-view r ≡ settled-by (layout-view l) (as-map 0 heights) (as-map false waits) (course-view (record { machines = machines; target = target })) ⌝ }
 {
     let mut q = Course { machines, target };
     for p in 1..=6 {

@@ -17,7 +17,7 @@ use Rattle.state.specs.declared.Memory.{Memory}
 use Rattle.state.specs.declared.State.{State}
 use Rattle.state.specs.Number.{number}
 use Rattle.state.specs.Outcome.{outcome-view}
-use Rattle.state.specs.Store.{memories-set}
+use Rattle.state.specs.Store.{with-live, memory-put}
 use Rattle.state.specs.View.{memory-view, memories, view, no-memory}
 use Rattle.sending.specs.declared.Outgoing.{Outgoing}
 use Rattle.sending.specs.declared.Planned.{Planned}
@@ -28,23 +28,6 @@ use Rattle.sending.specs.Store.{log-kept}
 use Rattle.sending.specs.Room.{table-room, wire-room, log-room}
 use Rattle.sending.specs.WorkPlan.{outgoing}
 use Rattle.sending.specs.Ticket.{tn-of, packets-of, to-table, to-wire, logged, to-log}
-
--- a state with other memories and another wire
-abbrev pub with-live : State → List Memory → Wire → State
-with-live s live wire = record {
-  layout = s .layout;
-  lost = s .lost;
-  machines = s .machines;
-  target = s .target;
-  live = live;
-  copy = s .copy;
-  notes = s .notes;
-  wire = wire;
-}
-
-pub memory-put : (u : State) (i : ℕ) (m : Memory) (w : Wire) → i < length (u .live) → view (with-live u (set (u .live) i m) w) ≡ parts.with-wire (parts.with-memory (view u) i (memory-view m)) (packets w)
-unfolding view
-memory-put u i m w h = rw (memories-set (u .live) i m h)
 
 -- ---- a message sent
 module _ (u : State) (m : Message) (k : Ticket) (size : length (u .live) ≡ 13) (a-in : m .sender < 13) (b-in : m .receiver < 13) (ready : Ready (view u) m k) where

@@ -22,6 +22,7 @@ use Rattle.wire.specs.declared.Wire.{Wire}
 use Rattle.wire.specs.View.{waiting, packets}
 use Rattle.state.specs.declared.Memory.{Memory}
 use Rattle.state.specs.declared.State.{State}
+use Rattle.state.specs.Store.{with-live, memory-put}
 use Rattle.state.specs.View.{memory-view, memories, view, no-memory}
 use Rattle.state.specs.Outcome.{outcome-view, tried}
 use Rattle.sending.specs.declared.ticket.Ticket.the-variants.{Remote}
@@ -31,7 +32,6 @@ use Rattle.sending.specs.Sent.{sent, ticketed}
 use Rattle.sending.specs.SentLaws.{remote-sent}
 use Rattle.sending.specs.Store.{chare-index}
 use Rattle.sending.specs.Inject.{room-by, asked-by, desk-asked, desk-remote}
-use Rattle.sending.specs.InPlace.{with-live, memory-put}
 use Rattle.sending.specs.Verdict.{judged-no, judged-yes}
 
 abbrev pub inject-outcome : State → ℕ → ℕ → ℕ → Outcome

@@ -6,6 +6,7 @@ use mathlib.Core.Logic.{_≢_}
 use Prim.Native.Nat.{ℕ, _≤_, min}
 use native.Mathlib.Omega.{arith}
 use lib.ListN.{length, getD, set, length-set}
+use Rattle.lists.specs.Questions.{first-no}
 use Rattle.protocol.specs.declared.Answer.{Answer}
 use Rattle.protocol.specs.declared.Answer.the-variants.{Accepted, Refused}
 use Rattle.protocol.specs.Frames.{Line, frame}
@@ -19,7 +20,8 @@ use Rattle.notes.specs.View.{noted}
 use Rattle.state.specs.declared.Memory.{Memory}
 use Rattle.state.specs.declared.State.{State}
 use Rattle.state.specs.declared.Stepped.{Stepped}
-use Rattle.state.specs.View.{view, statuses, no-memory}
+use Rattle.state.specs.Store.{with-live}
+use Rattle.state.specs.View.{memory-view, view, statuses, no-memory}
 use Rattle.state.specs.Number.{number}
 use Rattle.state.specs.Outcome.{outcome-view}
 use Rattle.machines.specs.declared.Course.{Course}
@@ -34,7 +36,7 @@ use Rattle.wire.specs.View.{waiting, packets}
 use Rattle.delivery.specs.InPlace.{chare-changed, notes-changed}
 use Rattle.delivery.specs.Judged.{the-outcome}
 use Rattle.sending.specs.declared.Planned.{Planned}
-use Rattle.sending.specs.InPlace.{Sending, worked-in, with-live, sending-end}
+use Rattle.sending.specs.InPlace.{Sending, worked-in, sending-end}
 use Rattle.sending.specs.InjectBy.{inject-outcome}
 use Rattle.sending.specs.declared.Places.{Places}
 use Rattle.sending.specs.Places.{places-of, sees-work}

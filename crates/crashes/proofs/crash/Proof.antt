@@ -4,7 +4,8 @@ use borrow.Author.Tests.{not-true, not-false}
 use borrow.Author.Needs.{needs}
 use Rattle.protocol.specs.Questions.{crash-questions}
 use Rattle.state.specs.View.{view}
-use Rattle.machines.specs.Asking.{first-no, refused, passed, machine-in}
+use Rattle.lists.specs.Questions.{first-no}
+use Rattle.machines.specs.Asking.{refused, passed, machine-in}
 use Rattle.crashes.specs.Whole.{crash-asked, covered, uncovered}
 use Rattle.crashes.proofs.crash.Statement.{statement}
 use Rattle.crashes.proofs.crash.Tie as tie

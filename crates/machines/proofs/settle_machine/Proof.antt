@@ -29,7 +29,7 @@ returns-2 : tie.Need-returns-2
 returns-2 c =
     let t = c .before .before in
     let e = t .before .before in
-    behind-settles _ _ _ _ _ _ (t .before .on-machine .ensures ∙ residents-on _ _ (omega arith)) (sym (e .before .is-calm .ensures) ∙ e .if1 .left) (sym (c .before .all-pass .ensures) ∙ not-true _ (c .if2 .taken))
+    behind-settles _ _ _ _ _ (sym (e .before .is-calm .ensures) ∙ e .if1 .left) _ (t .before .on-machine .ensures ∙ residents-on _ _ (omega arith)) (sym (c .before .all-pass .ensures) ∙ not-true _ (c .if2 .taken))
 
 mul-k : tie.Need-mul-k
 mul-k c = search needs
@@ -52,7 +52,7 @@ returns-3 c =
     let t = f .before .before in
     let e = t .before .before in
     let h = size (e .before .before .before) in
-    done-settles _ _ _ _ _ _ (t .before .on-machine .ensures ∙ residents-on _ _ (omega arith)) (sym (e .before .is-calm .ensures) ∙ e .if1 .left) (sym (f .before .all-pass .ensures) ∙ not-false _ (f .if2 .left))
+    done-settles _ _ _ _ _ (sym (e .before .is-calm .ensures) ∙ e .if1 .left) _ (t .before .on-machine .ensures ∙ residents-on _ _ (omega arith)) (sym (f .before .all-pass .ensures) ∙ not-false _ (f .if2 .left))
     (omega arith) _ (c .zeroed .ensures)
 
 pub settle-machine-spec : {M : Type 1} → statement M

@@ -1,13 +1,16 @@
 -- `settled`: at machine p of the loop, the machines from p on are still to settle.
+use mathlib.Core.Bool.{false}
 use Prim.Native.Nat.{_≤_, _-_}
 use native.Mathlib.Omega.{arith}
 use borrow.Author.Needs.{needs}
+use Rattle.arrays.specs.ArrayMap.{as-map}
+use Rattle.layout.specs.View.{layout-view}
 use Rattle.machines.specs.SettleLaws.{Going, going-start, going-more, going-end}
 use Rattle.machines.proofs.settled.Statement.{statement}
 use Rattle.machines.proofs.settled.Tie as tie
 
 abbrev Inv-loop : tie.InvT-loop
-Inv-loop l heights waits q₀ p₀ q p = (1 ≤ p) × (p ≤ 7) × Going l heights waits q₀ p q
+Inv-loop l heights waits q₀ p₀ q p = (1 ≤ p) × (p ≤ 7) × Going (layout-view l) (as-map 0 heights) (as-map false waits) q₀ p q
 
 abbrev μ-loop : tie.MeasureT-loop
 μ-loop l heights waits q₀ p₀ q p = 7 - p

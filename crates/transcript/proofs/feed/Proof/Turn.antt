@@ -16,8 +16,7 @@ use Rattle.protocol.specs.declared.Answer.{Answer}
 use Rattle.state.specs.declared.State.{State}
 use Rattle.state.specs.View.{view}
 use Rattle.machines.specs.Readings.{heights-of, heights-end, waits-of, waits-end}
-use Rattle.machines.specs.Settle.{Settling}
-use Rattle.machines.specs.SettleLaws.{runs-unreached}
+use Rattle.machines.specs.SettleLaws.{settling, runs-unreached}
 use Rattle.machines.specs.Sweep.{Filled}
 use Rattle.checkpoints.specs.Swept.{Swept, Half, half-on, half-off}
 use Rattle.checkpoints.specs.Whole.{checkpoint-in}
@@ -307,7 +306,6 @@ heights-kept c =
 
 -- the machines settle, or are not there yet, or are at rest
 pub line-stepped : (c : After-the-step) → let x = newline-place c in Steps (state-before x) (line-of x) (next-state c) (answer-of c)
-unfolding Settling
 line-stepped c =
     let h = heights-place c in
     let p = met-place h in
@@ -320,7 +318,7 @@ line-stepped c =
       before = record { before = record { before = record { before = record { before = record { before = record { before = record { before = c .before; if11 = w .0 }; l = w .1 }; target = w .2 }; reached = w .3 }; if12 = w .4 }; loop5 = w .5 }; loop5-test = w .6 };
       settled = w .7;
     } in
-    by-settle _ _ _ _ _ _ read a (m .ensures) (w .0 .taken) (w .7 .result) (settled-sized r) (w .7 .ensures _ (heights-read h) (waits-end _ _ _ (w .5 .inv) (w .6 .left) (a .sized .live))) _ (w .10))
+    by-settle _ _ _ _ _ _ read a (m .ensures) (w .0 .taken) (w .7 .result) (settled-sized r) (settling _ _ _ _ _ _ (w .7 .ensures) _ (heights-read h) (waits-end _ _ _ (w .5 .inv) (w .6 .left) (a .sized .live))) _ (w .10))
     (⊎-elim
     (λ w. by-unreached _ _ _ _ _ _ read a (m .ensures) (w .0 .taken) (runs-unreached _ _ _ _ _ (heights-read h) (sym (w .3 .ensures) ∙ w .4 .left)) _ (w .5))
     (λ w. by-rest _ _ _ _ _ _ read a (m .ensures) (w .0 .left) _ (w .1)))
