@@ -158,12 +158,7 @@ pub fn crash(s: State, p: u8) -> Stepped
 {
     let l = s.layout;
     let m = s.machines;
-    let n = state::first_no(
-        l.set,
-        layout::is_machine(l, p),
-        s.lost,
-        state::is_up(m, p),
-    );
+    let n = state::first_no(l.set, layout::is_machine(l, p), s.lost, state::is_up(m, p));
     if n != 0 {
         return Stepped {
             state: s,
