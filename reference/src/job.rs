@@ -43,8 +43,9 @@ impl Job {
                 return None;
             }
             job.buddies[ix(machine)] = match named {
-                0 if machine == draft.machines => 1,
-                0 => machine + 1,
+                // Point 7: the machine before, the last one before the first.
+                0 if machine == 1 => draft.machines,
+                0 => machine - 1,
                 _ => named,
             };
         }

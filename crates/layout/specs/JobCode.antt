@@ -2,13 +2,13 @@
 use mathlib.Core.Bool.{true, false, cond, not, _&&_}
 use mathlib.Core.List.{List}
 use mathlib.Core.Path.{_≡_, sym, _∙_}
-use Prim.Native.Nat.{ℕ, _+_, _<_, _≤_}
+use Prim.Native.Nat.{ℕ, _-_, _<_, _≤_}
 use borrow.Author.Tests.{le-leb, lt-leb, eq-eqb, ne-eqb}
 use lib.Dec.{eqb, leb}
 use lib.ListN.{getD}
 use Rattle.lists.specs.Lists.{allb}
 use Rattle.protocol.specs.Frames.{between}
-use Rattle.protocol.specs.Job.{machines-of, chares-of, buddy-byte, chare-byte, buddy-in-range, chare-in-range, job-in-range, job-of, has-machine, has-chare, next-machine}
+use Rattle.protocol.specs.Job.{machines-of, chares-of, buddy-byte, chare-byte, buddy-in-range, chare-in-range, job-in-range, job-of, has-machine, has-chare, previous-machine}
 use Rattle.protocol.specs.Parts.{every-machine, every-chare}
 use Rattle.frames.specs.DigitLaws.{between-in, between-low, between-high}
 use Rattle.layout.specs.Loops.{each, allb-keep}
@@ -47,20 +47,20 @@ module _ (b : List ℕ) where
       buddy-itself h = rw (same-m, ← is-x, le-leb x m h)
 
       module _ (low : 1 ≤ p) (high : p ≤ m) where
-        the-buddy : job-of b .buddy p ≡ cond (eqb x 0) (next-machine m p) x
+        the-buddy : job-of b .buddy p ≡ cond (eqb x 0) (previous-machine m p) x
         unfolding job-of has-machine
         the-buddy = rw (same-m, ← is-x, between-in 1 m p low high)
 
         pub named-buddy : (x ≡ 0 → ⊥) → x ≡ job-of b .buddy p
         named-buddy n = sym (the-buddy ∙ rw (ne-eqb x 0 n))
 
-        pub first-machine : x ≡ 0 → p ≡ m → 1 ≡ job-of b .buddy p
-        unfolding next-machine
-        first-machine e q = sym (the-buddy ∙ rw (eq-eqb x 0 e, eq-eqb p m q))
+        pub last-machine : x ≡ 0 → p ≡ 1 → m ≡ job-of b .buddy p
+        unfolding previous-machine
+        last-machine e q = sym (the-buddy ∙ rw (eq-eqb x 0 e, eq-eqb p 1 q))
 
-        pub next-one : x ≡ 0 → (p ≡ m → ⊥) → p + 1 ≡ job-of b .buddy p
-        unfolding next-machine
-        next-one e q = sym (the-buddy ∙ rw (eq-eqb x 0 e, ne-eqb p m q))
+        pub one-before : x ≡ 0 → (p ≡ 1 → ⊥) → p - 1 ≡ job-of b .buddy p
+        unfolding previous-machine
+        one-before e q = sym (the-buddy ∙ rw (eq-eqb x 0 e, ne-eqb p 1 q))
 
   -- ---- a chare's numbers
   module _ (n : ℕ) (is-n : n ≡ getD b 2 0) (c : ℕ) where

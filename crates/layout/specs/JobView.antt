@@ -2,14 +2,14 @@
 use mathlib.Core.Bool.{Bool, true, cond, not, _&&_}
 use mathlib.Core.List.{List}
 use mathlib.Core.Path.{_≡_, refl, sym}
-use Prim.Native.Nat.{ℕ, _+_, _≤_}
+use Prim.Native.Nat.{ℕ, _-_, _≤_}
 use native.Mathlib.Omega.{arith}
-use borrow.Author.Tests.{leb-true, eqb-false}
+use borrow.Author.Tests.{leb-true}
 use lib.Dec.{eqb, leb}
 use lib.ListN.{length, getD}
 use Rattle.lists.specs.Tests.{split, and-l, and-r}
 use Rattle.protocol.specs.Frames.{between}
-use Rattle.protocol.specs.Job.{machines-of, chares-of, buddy-byte, chare-byte, buddy-in-range, chare-in-range, job-in-range, job-of, has-machine, has-chare, next-machine}
+use Rattle.protocol.specs.Job.{machines-of, chares-of, buddy-byte, chare-byte, buddy-in-range, chare-in-range, job-in-range, job-of, has-machine, has-chare, previous-machine}
 use Rattle.layout.specs.JobCode.{no-buddy-low, no-buddy-high, no-number-low, no-number-high}
 use Rattle.layout.specs.JobLaws.{Between, between-true, InRange, in-range}
 use Rattle.layout.specs.Loops.{Filled}
@@ -19,11 +19,11 @@ use Rattle.layout.specs.declared.Layout.{Layout}
 
 module _ (b : List ℕ) (r : InRange b) where
   -- ---- no number is above its bound
-  next-top : (p : ℕ) → Between 1 (machines-of b) p → next-machine (machines-of b) p ≤ 6
-  unfolding next-machine
-  next-top p q =
+  previous-top : (p : ℕ) → Between 1 (machines-of b) p → previous-machine (machines-of b) p ≤ 6
+  unfolding previous-machine
+  previous-top p q =
       let m = r .machines in
-      split (λ t. cond t 1 (p + 1) ≤ 6) (eqb p (machines-of b)) (λ _. omega arith) (λ e. let n = eqb-false p (machines-of b) e in omega arith)
+      split (λ t. cond t (machines-of b) (p - 1) ≤ 6) (eqb p 1) (λ _. omega arith) (λ _. omega arith)
 
   named-top : (p : ℕ) → buddy-in-range b p ≡ true → buddy-byte b p ≤ 6
   unfolding buddy-in-range
@@ -35,9 +35,9 @@ module _ (b : List ℕ) (r : InRange b) where
   pub buddy-top : (p : ℕ) → job-of b .buddy p ≤ 6
   unfolding job-of has-machine
   buddy-top p =
-      split (λ t. cond t (cond (eqb (buddy-byte b p) 0) (next-machine (machines-of b) p) (buddy-byte b p)) 0 ≤ 6) (between 1 (machines-of b) p)
+      split (λ t. cond t (cond (eqb (buddy-byte b p) 0) (previous-machine (machines-of b) p) (buddy-byte b p)) 0 ≤ 6) (between 1 (machines-of b) p)
       (λ e. let q = between-true 1 (machines-of b) p e in
-      split (λ t. cond t (next-machine (machines-of b) p) (buddy-byte b p) ≤ 6) (eqb (buddy-byte b p) 0) (λ _. next-top p q) (λ _. named-top p (r .buddies p q)))
+      split (λ t. cond t (previous-machine (machines-of b) p) (buddy-byte b p) ≤ 6) (eqb (buddy-byte b p) 0) (λ _. previous-top p q) (λ _. named-top p (r .buddies p q)))
       (λ _. omega arith)
 
   pub number-top : (i m : ℕ) → ((c : ℕ) → chare-in-range b c ≡ true → chare-byte b c i ≤ m) → (c : ℕ) → number-of b i c ≤ m

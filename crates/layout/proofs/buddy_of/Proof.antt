@@ -1,6 +1,6 @@
 -- `layout::buddy_of` meets its contract: branch by branch.
 use borrow.Author.Needs.{needs}
-use Rattle.layout.specs.JobCode.{no-buddy-low, no-buddy-high, named-buddy, first-machine, next-one}
+use Rattle.layout.specs.JobCode.{no-buddy-low, no-buddy-high, named-buddy, last-machine, one-before}
 use Rattle.layout.proofs.buddy_of.Statement.{statement}
 use Rattle.layout.proofs.buddy_of.Tie as tie
 
@@ -24,15 +24,12 @@ returns-3 c =
 returns-4 : tie.Need-returns-4
 returns-4 c =
     let e = c .before .before .before in
-    first-machine _ _ (e .before .before .byte .ensures) _ _ (c .before .before .buddy-byte .ensures) (e .before .if1 .left) (e .if2 .left) (c .before .if3 .left) (c .if4 .taken)
-
-add-result : tie.Need-add-result
-add-result c = search needs
+    last-machine _ _ (e .before .before .byte .ensures) _ _ (c .before .before .buddy-byte .ensures) (e .before .if1 .left) (e .if2 .left) (c .before .if3 .left) (c .if4 .taken)
 
 returns-5 : tie.Need-returns-5
 returns-5 c =
     let e = c .before .before .before in
-    next-one _ _ (e .before .before .byte .ensures) _ _ (c .before .before .buddy-byte .ensures) (e .before .if1 .left) (e .if2 .left) (c .before .if3 .left) (c .if4 .left)
+    one-before _ _ (e .before .before .byte .ensures) _ _ (c .before .before .buddy-byte .ensures) (e .before .if1 .left) (e .if2 .left) (c .before .if3 .left) (c .if4 .left)
 
 pub buddy-of-spec : {M : Type 1} → statement M
 buddy-of-spec =
@@ -44,5 +41,4 @@ buddy-of-spec =
     buddy-byte-requires
     returns-3
     returns-4
-    add-result
     returns-5)

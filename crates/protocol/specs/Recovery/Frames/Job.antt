@@ -16,7 +16,7 @@ use Rattle.protocol.specs.declared.Status.the-variants.{Up}
 use Rattle.protocol.specs.Parts.{Job, Memory, State, blank, every-chare, every-machine, no-job, start}
 use Rattle.protocol.specs.Frames.{between}
 use Rattle.protocol.specs.Work.{port, ports, receivers}
-use Rattle.protocol.specs.Job.{machines-of, chares-of, buddy-byte, chare-byte, buddy-in-range, chare-in-range, job-in-range, next-machine, has-machine, has-chare, job-of, new-memory, first-memory, begin}
+use Rattle.protocol.specs.Job.{machines-of, chares-of, buddy-byte, chare-byte, buddy-in-range, chare-in-range, job-in-range, previous-machine, has-machine, has-chare, job-of, new-memory, first-memory, begin}
 use Rattle.protocol.specs.CrashFree.{run-start}
 use Rattle.protocol.specs.Demand3.{no-history}
 use Rattle.protocol.specs.Recovery.Run.Fold.{Local, local-start, folded-nil}
@@ -169,15 +169,15 @@ module _ (b : List ℕ) (range : InRange b) where
       let second = port-byte c 2 (λ p q. range .numbers c p q .second) in
       either (eqb hops 0) (λ e. rw e (all-nil _)) (λ e. rw e (all-append _ first second))
 
-  next-differs : (p : ℕ) → next-machine (machines-of b) p ≢ p
-  unfolding next-machine
-  next-differs p e = either (eqb p (machines-of b))
-      (λ q. let k = eqb-true p (machines-of b) q in let h = rw q at e in let m = range .machines in omega arith)
+  previous-differs : (p : ℕ) → 1 ≤ p → previous-machine (machines-of b) p ≢ p
+  unfolding previous-machine
+  previous-differs p low e = either (eqb p 1)
+      (λ q. let k = eqb-true p 1 q in let h = rw q at e in let m = range .machines in omega arith)
       (λ q. let h = rw q at e in omega arith)
 
-  given-differs : (p : ℕ) → 1 ≤ p → p ≤ machines-of b → cond (eqb (buddy-byte b p) 0) (next-machine (machines-of b) p) (buddy-byte b p) ≢ p
+  given-differs : (p : ℕ) → 1 ≤ p → p ≤ machines-of b → cond (eqb (buddy-byte b p) 0) (previous-machine (machines-of b) p) (buddy-byte b p) ≢ p
   given-differs p h k e = either (eqb (buddy-byte b p) 0)
-      (λ z. next-differs p (rw z at e))
+      (λ z. previous-differs p h (rw z at e))
       (λ z. range .buddies p h k (rw z at e))
 
   buddy-differs : (p : ℕ) → p ∈ every-machine → job-of b .buddy p ≢ p
