@@ -56,6 +56,10 @@ pub chare-known : (c : ℕ) → 1 ≤ c → c ≤ 12 → c ∈ every-chare
 unfolding counting every-chare
 chare-known c p q = mem-counting 1 12 c p (omega arith)
 
+pub chare-positive : {c : ℕ} → c ∈ every-chare → 1 ≤ c
+unfolding counting every-chare
+chare-positive i = counting-mem 1 12 i
+
 pub machine-known : (p : ℕ) → 1 ≤ p → p ≤ 6 → p ∈ every-machine
 unfolding counting every-machine
 machine-known p h k = mem-counting 1 6 p h (omega arith)

@@ -1,0 +1,3 @@
+-- What document 02 claims of a changed rule against the former one.
+pub mod ZeroBuddy
+pub mod ZeroBuddyProof
