@@ -139,7 +139,7 @@ fn a_job_out_of_range() {
 
 #[test]
 fn every_reason_for_a_crash_without_cover() {
-    let state = played("010303000000010000020000030000", &[]);
+    let state = played("010303020301010000020000030000", &[]);
     let mut down = state.clone();
     down.world.phases[1] = Phase::Down;
     let mut catching = state.clone();

@@ -217,15 +217,25 @@ fn restart_fills_local_messages() {
     assert_eq!(state.world.phases[0], Phase::Up);
 }
 
+/// Point 7: 00 is the machine before, the last one before the first; a number is what it says.
+#[test]
+fn buddies() {
+    let buddies = |job: &str| {
+        let state = start(job);
+        let job = state.job.as_ref().unwrap();
+        job.machines().map(|m| job.buddy_of(m)).collect::<Vec<u8>>()
+    };
+    assert_eq!(buddies("0102010000010000"), [2, 1]);
+    assert_eq!(buddies("010301000000010000"), [3, 1, 2]);
+    assert_eq!(buddies("01040100030002010000"), [4, 3, 2, 2]);
+    assert_eq!(buddies("010601000000000000010000"), [6, 1, 2, 3, 4, 5]);
+}
+
 #[test]
 fn crash_takes_packets() {
     // Three machines in a ring of buddies; chares 1, 2 on machine 1, 3 on 2, 4 on 3.
     // Chare 1 writes to 2 and 3, chare 3 to 1 and itself.
-    let mut state = start(
-        "0103040000000102030100000201030300 00"
-            .replace(' ', "")
-            .as_str(),
-    );
+    let mut state = start("010304020301010203010000020103030000");
     accept(&mut state, &["1001000102", "1003000201", "1001000300"]);
     for kind in 1..=3 {
         accept(&mut state, &[&format!("110{kind}00010001")]);

@@ -268,10 +268,7 @@ fn buddy_of(line: &[u8], p: u8) -> u8
     if x != 0 {
         return x;
     }
-    if p == 1 {
-        return m;
-    }
-    p - 1
+    if p == 1 { m } else { p - 1 }
 }
 
 fn number_of(line: &[u8], i: u8, c: u8) -> u8
