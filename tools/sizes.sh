@@ -5,6 +5,7 @@ cd "$(dirname "$0")/.."
 lines() { find "$@" -print0 | xargs -0 cat | wc -l; }
 echo "definitions of the rule book:        $(lines crates/protocol/specs -maxdepth 1 -name '*.antt')"
 echo "proof of demand 3:                   $(lines crates/protocol/specs/Recovery -name '*.antt')"
+echo "claims of document 02, with proofs:  $(lines crates/protocol/specs/Changes -name '*.antt')"
 echo "laws of lists, maps and questions:   $(lines crates/lists/specs -name '*.antt')"
 echo "code:                                $(lines crates -path '*/src/*.rt')"
 echo "what its contracts say, and laws:    $(lines crates -path '*/specs/*.antt' -not -path 'crates/protocol/*' -not -path 'crates/lists/*')"

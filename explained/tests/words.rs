@@ -137,6 +137,20 @@ fn a_job_out_of_range() {
     }
 }
 
+/// Buddy 00 is the machine before, the last one before the first; a buddy that is named needs no word.
+#[test]
+fn buddies_of_a_job() {
+    let job = "010301000300010000";
+    let text = said(&State::new(), job, Answer::Accepted);
+    for want in [
+        "Machine 1 (buddy: machine 3, 00 being the machine before): chare 1",
+        "Machine 2 (buddy: machine 3): no chare.",
+        "Machine 3 (buddy: machine 2, 00 being the machine before): no chare.",
+    ] {
+        assert!(text.contains(want), "{text}");
+    }
+}
+
 #[test]
 fn every_reason_for_a_crash_without_cover() {
     let state = played("010303020301010000020000030000", &[]);

@@ -1,9 +1,10 @@
 //! The words for a job.
 
 use crate::names::{count, joined};
-use reference::job::Job;
+use reference::frame::Draft;
+use reference::job::{ix, Job};
 
-pub fn words(job: &Job) -> Vec<String> {
+pub fn words(job: &Job, draft: &Draft) -> Vec<String> {
     let mut lines = vec![format!(
         "Job: {} and {}.",
         count(job.machine_count().into(), "machine"),
@@ -16,8 +17,13 @@ pub fn words(job: &Job) -> Vec<String> {
             _ => joined(&chares),
         };
         let buddy = job.buddy_of(machine);
+        // A buddy that the frame does not name is said to be a reading of 00.
+        let why = match draft.buddies[ix(machine)] {
+            0 => ", 00 being the machine before",
+            _ => "",
+        };
         lines.push(format!(
-            "Machine {machine} (buddy: machine {buddy}): {chares}."
+            "Machine {machine} (buddy: machine {buddy}{why}): {chares}."
         ));
     }
     lines

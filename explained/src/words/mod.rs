@@ -81,7 +81,7 @@ pub fn words(step: &Step) -> Vec<String> {
 
 fn accepted(done: &Done, answer: Answer) -> Vec<String> {
     let mut lines = match *done.frame {
-        Frame::Job(_) => job::words(done.job),
+        Frame::Job(ref draft) => job::words(done.job, draft),
         Frame::Inject { chare, value, hops } => send::inject(done, chare, value, hops),
         Frame::Deliver { .. } => deliver::words(done),
         Frame::Work { chare } => send::work(done, chare),

@@ -1,6 +1,6 @@
 -- Why a list with 00 spelt out gets the lines that 00 gave before.
 use mathlib.Core.Path.{_≡_, refl, sym, ap, _∙_, fun-ext}
-use mathlib.Core.Bool.{Bool, true, false, cond, not, _&&_}
+use mathlib.Core.Bool.{true, false, cond, not, _&&_}
 use mathlib.Core.Logic.{_⊎_, inl, inr, _≢_}
 use mathlib.Core.List.{List, [], _∷_}
 use mathlib.Core.Option.{Option, some, none}
@@ -9,17 +9,16 @@ use native.Mathlib.Omega.{arith}
 use lib.Dec.{eqb, leb}
 use lib.ListN.{length, getD, List·getD-eq-default}
 use borrow.Author.Tests.{eqb-true, eqb-false, eq-eqb, ne-eqb, leb-true, le-leb, lt-leb}
-use Rattle.lists.specs.Tests.{either, split, eq?, lt?, and-l, and-r}
-use Rattle.lists.specs.Lists.{_∈_, keep, keep-mem, allb, allb-ext}
-use Rattle.lists.specs.Questions.{asks}
+use Rattle.lists.specs.Tests.{either, split, lt?, and-r}
+use Rattle.lists.specs.Lists.{keep, keep-mem, allb, allb-ext}
 use Rattle.protocol.specs.Parts.{State, every-chare, every-machine}
-use Rattle.protocol.specs.Frames.{Line, Frame, job, frame, frame-of, parts, bytes, between, is-whole, exact-length, least-length}
+use Rattle.protocol.specs.Frames.{Line, job, frame, frame-of, parts, bytes, between, is-whole, exact-length, least-length}
 use Rattle.protocol.specs.Job.{machines-of, chares-of, buddy-byte, chare-byte, buddy-in-range, chare-in-range, job-in-range, has-machine, has-chare, previous-machine, job-of, first-memory, begin}
 use Rattle.protocol.specs.Questions.{questions, job-questions}
 use Rattle.protocol.specs.Step.{play, outcome, step, step-frame, answers-from}
 use Rattle.protocol.specs.Computing.{opened}
 use Rattle.protocol.specs.Recovery.Frames.Job.{between-true, true-between, machine-positive, chare-positive}
-use Rattle.protocol.specs.Changes.ZeroBuddy.{next-machine, buddy-before, job-before, begin-before, play-before, step-before, answers-before, spelt-byte, by-place, spelt-out, spelt, spelt-frame, Rewritten, nothing, line, Acceptable, ZeroBuddy}
+use Rattle.protocol.specs.Changes.ZeroBuddy.{next-machine, buddy-before, job-before, begin-before, play-before, step-before, answers-before, spelt-byte, by-place, spelt-out, spelt, spelt-frame, Rewritten, nothing, line, ZeroBuddy}
 
 -- ---- bytes by their places
 by-place-length : (f : ℕ → ℕ → ℕ) (k : ℕ) (l : List ℕ) → length (by-place f k l) ≡ length l
