@@ -1,12 +1,14 @@
 -- What each branch of the code that reads a job line finds: b are the line's bytes, and m, n the machines and chares that it names.
 use mathlib.Core.Bool.{true, false, cond, not, _&&_}
 use mathlib.Core.List.{List}
+use mathlib.Core.Logic.{inl, inr}
 use mathlib.Core.Path.{_≡_, sym, _∙_}
 use Prim.Native.Nat.{ℕ, _-_, _<_, _≤_}
 use borrow.Author.Tests.{le-leb, lt-leb, eq-eqb, ne-eqb}
 use lib.Dec.{eqb, leb}
 use lib.ListN.{getD}
 use Rattle.lists.specs.Lists.{allb}
+use Rattle.lists.specs.Tests.{eq?}
 use Rattle.protocol.specs.Frames.{between}
 use Rattle.protocol.specs.Job.{machines-of, chares-of, buddy-byte, chare-byte, buddy-in-range, chare-in-range, job-in-range, job-of, has-machine, has-chare, previous-machine}
 use Rattle.protocol.specs.Parts.{every-machine, every-chare}
@@ -54,13 +56,12 @@ module _ (b : List ℕ) where
         pub named-buddy : (x ≡ 0 → ⊥) → x ≡ job-of b .buddy p
         named-buddy n = sym (the-buddy ∙ rw (ne-eqb x 0 n))
 
-        pub last-machine : x ≡ 0 → p ≡ 1 → m ≡ job-of b .buddy p
+        pub unnamed-buddy : x ≡ 0 → (y : ℕ) → (p ≡ 1 → y ≡ m) → ((p ≡ 1 → ⊥) → y ≡ p - 1) → y ≡ job-of b .buddy p
         unfolding previous-machine
-        last-machine e q = sym (the-buddy ∙ rw (eq-eqb x 0 e, eq-eqb p 1 q))
-
-        pub one-before : x ≡ 0 → (p ≡ 1 → ⊥) → p - 1 ≡ job-of b .buddy p
-        unfolding previous-machine
-        one-before e q = sym (the-buddy ∙ rw (eq-eqb x 0 e, ne-eqb p 1 q))
+        unnamed-buddy e y first later = elim (eq? p 1) [
+          | inl q ↦ sym (the-buddy ∙ rw (eq-eqb x 0 e, eq-eqb p 1 q) (sym (first q)))
+          | inr n ↦ sym (the-buddy ∙ rw (eq-eqb x 0 e, ne-eqb p 1 n) (sym (later n)))
+        ]
 
   -- ---- a chare's numbers
   module _ (n : ℕ) (is-n : n ≡ getD b 2 0) (c : ℕ) where

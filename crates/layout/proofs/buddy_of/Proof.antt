@@ -1,6 +1,7 @@
 -- `layout::buddy_of` meets its contract: branch by branch.
+use native.Mathlib.Omega.{arith}
 use borrow.Author.Needs.{needs}
-use Rattle.layout.specs.JobCode.{no-buddy-low, no-buddy-high, named-buddy, last-machine, one-before}
+use Rattle.layout.specs.JobCode.{no-buddy-low, no-buddy-high, named-buddy, unnamed-buddy}
 use Rattle.layout.proofs.buddy_of.Statement.{statement}
 use Rattle.layout.proofs.buddy_of.Tie as tie
 
@@ -24,12 +25,14 @@ returns-3 c =
 returns-4 : tie.Need-returns-4
 returns-4 c =
     let e = c .before .before .before in
-    last-machine _ _ (e .before .before .byte .ensures) _ _ (c .before .before .buddy-byte .ensures) (e .before .if1 .left) (e .if2 .left) (c .before .if3 .left) (c .if4 .taken)
+    unnamed-buddy _ _ (e .before .before .byte .ensures) _ _ (c .before .before .buddy-byte .ensures) (e .before .if1 .left) (e .if2 .left) (c .before .if3 .left) _
+    (λ q. omega arith) (λ n. omega arith)
 
 returns-5 : tie.Need-returns-5
 returns-5 c =
     let e = c .before .before .before in
-    one-before _ _ (e .before .before .byte .ensures) _ _ (c .before .before .buddy-byte .ensures) (e .before .if1 .left) (e .if2 .left) (c .before .if3 .left) (c .if4 .left)
+    unnamed-buddy _ _ (e .before .before .byte .ensures) _ _ (c .before .before .buddy-byte .ensures) (e .before .if1 .left) (e .if2 .left) (c .before .if3 .left) _
+    (λ q. omega arith) (λ n. omega arith)
 
 pub buddy-of-spec : {M : Type 1} → statement M
 buddy-of-spec =
