@@ -1,0 +1,9 @@
+-- A part of a lent store, rows of equal parts, and counted rows of words.
+pub mod Part
+pub mod Slots
+pub mod Rows
+pub mod Mapped
+pub mod Fields
+pub mod Copy
+pub mod Sift
+pub mod Zeros
