@@ -1,0 +1,2 @@
+-- What the contracts of head say.
+pub mod Head

@@ -1,0 +1,2 @@
+-- What the contracts of logs say.
+pub mod Log

@@ -1,0 +1,3 @@
+-- A chare's memory as words.
+pub mod Places
+pub mod View

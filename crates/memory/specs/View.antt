@@ -1,0 +1,111 @@
+-- A chare's memory as words: state, height, top, 16 SN counts, 16 marks, 16 windows, the table and the log. A peer of an item is one of 16,
+-- so each has a mark.
+use mathlib.Core.Path.{_≡_, refl, sym, ap, _∙_}
+use mathlib.Core.List.{List, map}
+use Prim.Native.Nat.{ℕ, _+_, _%_, _≤_, _<_}
+use native.Mathlib.Omega.{arith}
+use lib.ListN.{length, getD, length-map, List·getD-map}
+use Rattle.arrays.specs.ArrayMap.{as-map, map-beyond}
+use Rattle.protocol.specs.declared.Entry.{Entry}
+use Rattle.protocol.specs.declared.Logged.{Logged}
+use Rattle.protocol.specs.Parts.{Memory, with-table, with-log}
+use Rattle.window.specs.Bits.{bits}
+use Rattle.words.specs.Part.{part, put, part-at, part-length, part-put, part-before, part-behind}
+use Rattle.tickets.specs.Table as tickets
+use Rattle.logs.specs.Log as logs
+use Rattle.memory.specs.Places.{STATE, HEIGHT, TOP, NUMBERS, SN, MARK, WINDOW, TABLE, ROW, LOG, MEMORY}
+
+unfoldable pub memory-view : List ℕ → Memory
+memory-view ws = record {
+  state = getD (part 0 NUMBERS ws) STATE 0 % 4294967296;
+  height = getD (part 0 NUMBERS ws) HEIGHT 0 % 65536;
+  sn = as-map 0 (map (_% 65536) (part SN 16 ws));
+  mark = as-map 0 (map (_% 65536) (part MARK 16 ws));
+  window = λ s. bits (as-map 0 (part WINDOW 16 ws) s);
+  top = getD (part 0 NUMBERS ws) TOP 0 % 65536;
+  table = tickets.entries (part TABLE ROW ws);
+  log = logs.entries (part LOG ROW ws);
+}
+
+-- ---- a part read
+module _ (ws : List ℕ) where
+  pub log-part : memory-view ws .log ≡ logs.entries (part LOG ROW ws)
+  unfolding memory-view
+  log-part = refl
+
+  pub table-part : memory-view ws .table ≡ tickets.entries (part TABLE ROW ws)
+  unfolding memory-view
+  table-part = refl
+
+  pub state-at : getD ws STATE 0 % 4294967296 ≡ memory-view ws .state
+  unfolding memory-view
+  state-at = rw (part-at 0 NUMBERS STATE ws 0 (omega arith))
+
+  pub height-at : getD ws HEIGHT 0 % 65536 ≡ memory-view ws .height
+  unfolding memory-view
+  height-at = rw (part-at 0 NUMBERS HEIGHT ws 0 (omega arith))
+
+  pub top-at : getD ws TOP 0 % 65536 ≡ memory-view ws .top
+  unfolding memory-view
+  top-at = rw (part-at 0 NUMBERS TOP ws 0 (omega arith))
+
+  module _ (s : ℕ) where
+    pub sn-at : s < 16 → getD ws (SN + s) 0 % 65536 ≡ memory-view ws .sn s
+    unfolding memory-view as-map
+    sn-at h = sym (List·getD-map (_% 65536) (part SN 16 ws) s 0 ∙ ap (_% 65536) (part-at SN 16 s ws 0 h))
+
+    pub mark-at : s < 16 → getD ws (MARK + s) 0 % 65536 ≡ memory-view ws .mark s
+    unfolding memory-view as-map
+    mark-at h = sym (List·getD-map (_% 65536) (part MARK 16 ws) s 0 ∙ ap (_% 65536) (part-at MARK 16 s ws 0 h))
+
+    pub window-at : s < 16 → bits (getD ws (WINDOW + s) 0) ≡ memory-view ws .window s
+    unfolding memory-view as-map
+    window-at h = ap bits (sym (part-at WINDOW 16 s ws 0 h))
+
+    module _ (size : length ws ≡ MEMORY) (h : 16 ≤ s) where
+      pub no-sn : 0 ≡ memory-view ws .sn s
+      unfolding memory-view
+      no-sn = sym (map-beyond 0 (map (_% 65536) (part SN 16 ws)) s (omega (arith, length-map (part SN 16 ws) (_% 65536), part-length SN 16 ws (omega arith))))
+
+      pub no-mark : 0 ≡ memory-view ws .mark s
+      unfolding memory-view
+      no-mark = sym (map-beyond 0 (map (_% 65536) (part MARK 16 ws)) s (omega (arith, length-map (part MARK 16 ws) (_% 65536), part-length MARK 16 ws (omega arith))))
+
+      pub no-window : bits 0 ≡ memory-view ws .window s
+      unfolding memory-view
+      no-window = ap bits (sym (map-beyond 0 (part WINDOW 16 ws) s (omega (arith, part-length WINDOW 16 ws (omega arith)))))
+
+-- ---- a row put anew
+module _ (ws ys : List ℕ) (size : length ws ≡ MEMORY) (long : length ys ≡ ROW) where
+  pub log-put : memory-view (put LOG ROW ws ys) ≡ with-log (memory-view ws) (logs.entries ys)
+  unfolding memory-view
+  log-put =
+      let fits : LOG + ROW ≤ length ws = omega arith in
+      rw (
+        part-before LOG ROW ws ys fits long 0 NUMBERS (omega arith),
+        part-before LOG ROW ws ys fits long SN 16 (omega arith),
+        part-before LOG ROW ws ys fits long MARK 16 (omega arith),
+        part-before LOG ROW ws ys fits long WINDOW 16 (omega arith),
+        part-before LOG ROW ws ys fits long TABLE ROW (omega arith),
+        part-put LOG ROW ws ys fits long,
+      )
+
+  pub table-put : memory-view (put TABLE ROW ws ys) ≡ with-table (memory-view ws) (tickets.entries ys)
+  unfolding memory-view
+  table-put =
+      let fits : TABLE + ROW ≤ length ws = omega arith in
+      rw (
+        part-before TABLE ROW ws ys fits long 0 NUMBERS (omega arith),
+        part-before TABLE ROW ws ys fits long SN 16 (omega arith),
+        part-before TABLE ROW ws ys fits long MARK 16 (omega arith),
+        part-before TABLE ROW ws ys fits long WINDOW 16 (omega arith),
+        part-put TABLE ROW ws ys fits long,
+        part-behind TABLE ROW ws ys fits long LOG ROW (omega arith),
+      )
+
+  -- as the functions on the rows answer
+  pub log-changed : (f : List Logged → List Logged) → logs.entries ys ≡ f (logs.entries (part LOG ROW ws)) → memory-view (put LOG ROW ws ys) ≡ with-log (memory-view ws) (f (memory-view ws .log))
+  log-changed f e = log-put ∙ ap (with-log (memory-view ws)) (e ∙ ap f (sym (log-part ws)))
+
+  pub table-changed : (f : List Entry → List Entry) → tickets.entries ys ≡ f (tickets.entries (part TABLE ROW ws)) → memory-view (put TABLE ROW ws ys) ≡ with-table (memory-view ws) (f (memory-view ws .table))
+  table-changed f e = table-put ∙ ap (with-table (memory-view ws)) (e ∙ ap f (sym (table-part ws)))

@@ -1,0 +1,2 @@
+-- What the contracts of notelist say.
+pub mod Notes

@@ -1,0 +1,4 @@
+-- The whole state as words.
+pub mod Places
+pub mod View
+pub mod ViewLaws

@@ -1,0 +1,43 @@
+-- A store of words as a state of the definitions: the head, 13 memories, 13 copies, 7 note lists, the wire. Any words are a state.
+use mathlib.Core.Path.{_≡_}
+use mathlib.Core.Bool.{Bool}
+use mathlib.Core.List.{List}
+use Prim.Native.Nat.{ℕ}
+use Rattle.lists.specs.Questions.{asks}
+use Rattle.protocol.specs.declared.Answer.{Answer}
+use Rattle.protocol.specs.declared.Answer.the-variants.{Accepted, Refused}
+use Rattle.protocol.specs.Parts.{State}
+use Rattle.protocol.specs.Step.{Outcome, judged}
+use Rattle.words.specs.Part.{part}
+use Rattle.words.specs.Slots.{slots}
+use Rattle.head.specs.Head.{HEAD, job-of, lost-of, status-of, held-of, target-of}
+use Rattle.notelist.specs.Notes.{notes}
+use Rattle.packets.specs.Words.{packets}
+use Rattle.memory.specs.Places.{MEMORY}
+use Rattle.memory.specs.View.{memory-view}
+use Rattle.store.specs.Places.{LIVE, COPY, NOTES, NOTELIST, WIRE, PACKETS}
+
+unfoldable pub view : List ℕ → State
+view xs = record {
+  job = job-of (part 0 HEAD xs);
+  lost = lost-of (part 0 HEAD xs);
+  status = status-of (part 0 HEAD xs);
+  target = target-of (part 0 HEAD xs);
+  live = λ c. memory-view (slots LIVE MEMORY 13 xs c);
+  held = held-of (part 0 HEAD xs);
+  copy = λ c. memory-view (slots COPY MEMORY 13 xs c);
+  notes = λ p. notes (slots NOTES NOTELIST 7 xs p);
+  wire = packets (part WIRE PACKETS xs);
+}
+
+unfoldable pub outcome : List ℕ → Answer → Outcome
+outcome xs a = record { state = view xs; answer = a }
+
+-- the questions are put to s; if all are answered "yes", t is the state
+unfoldable pub tried : State → List Bool → State → Outcome
+tried s questions t = judged s (asks 2 questions (record { state = t; answer = Accepted }))
+
+-- A frame in place: state and answer are those of the outcome o, and a refusal leaves every word as it was.
+pub record Framed (before after : List ℕ) (a : Answer) (o : Outcome) : Type 0 where
+  pub gives : outcome after a ≡ o
+  pub stays : (n : ℕ) → a ≡ Refused n → after ≡ before

@@ -1,0 +1,150 @@
+-- A part of the store put anew changes that part of the view, and no other. All arithmetic on places is here.
+use mathlib.Core.Path.{_≡_, refl, sym, ap, _∙_, fun-ext}
+use mathlib.Core.List.{List, []}
+use mathlib.Core.Logic.{inl}
+use Prim.Native.Nat.{ℕ, _+_, _*_, _≤_, _<_}
+use native.Mathlib.Omega.{arith}
+use lib.ListN.{length}
+use Rattle.lists.specs.Map.{upd, upd-ind, upd-same, upd-other}
+use Rattle.protocol.specs.declared.Note.{Note}
+use Rattle.protocol.specs.Parts.{State, Memory, with-memory, with-copies, with-notes, with-wire}
+use Rattle.words.specs.Part.{part, put, put-length, part-length, part-put, part-before, part-behind}
+use Rattle.words.specs.Slots.{slots, slot-here, slots-before, slots-behind, slots-put}
+use Rattle.words.specs.Copy.{Apart}
+use Rattle.head.specs.Head.{HEAD, job-of, lost-of, status-of, held-of, target-of}
+use Rattle.notelist.specs.Notes.{notes}
+use Rattle.packets.specs.Words.{packets}
+use Rattle.memory.specs.Places.{MEMORY}
+use Rattle.memory.specs.View.{memory-view}
+use Rattle.store.specs.Places.{LIVE, COPY, NOTES, NOTELIST, WIRE, PACKETS, STORE, live-from, copy-from, notes-from}
+use Rattle.store.specs.View.{view}
+
+-- a map of a map, changed at one key
+pub over : {A B : Type 0} (f : A → B) (k : ℕ) (v : A) (g : ℕ → A) → (λ i. f (upd k v g i)) ≡ upd k (f v) (λ i. f (g i))
+over f k v g = fun-ext (upd-ind (λ i w. f (upd k v g i) ≡ w) k (f v) (λ i. f (g i)) (ap f (upd-same k v g)) (λ i d. ap f (upd-other k v g i d)))
+
+-- the copy of chare c becomes m
+abbrev pub with-copy : State → ℕ → Memory → State
+with-copy s c m = with-copies s (s .held) (upd c m (s .copy)) (s .notes)
+
+-- the head becomes that of h
+abbrev pub with-head : State → List ℕ → State
+with-head s h = record { job = job-of h; lost = lost-of h; status = status-of h; target = target-of h; live = s .live; held = held-of h; copy = s .copy; notes = s .notes; wire = s .wire }
+
+pub apart : (c : ℕ) → c < 13 → Apart (live-from c) (copy-from c) MEMORY
+apart c h = inl (omega arith)
+
+module _ (xs : List ℕ) where
+  pub wire-at : view xs .wire ≡ packets (part WIRE PACKETS xs)
+  unfolding view
+  wire-at = refl
+
+  pub live-at : (c : ℕ) → c < 13 → view xs .live c ≡ memory-view (part (live-from c) MEMORY xs)
+  unfolding view
+  live-at c h = ap memory-view (slot-here LIVE MEMORY 13 xs c h)
+
+  pub copy-at : (c : ℕ) → c < 13 → view xs .copy c ≡ memory-view (part (copy-from c) MEMORY xs)
+  unfolding view
+  copy-at c h = ap memory-view (slot-here COPY MEMORY 13 xs c h)
+
+  pub notes-at : (p : ℕ) → p < 7 → view xs .notes p ≡ notes (part (notes-from p) NOTELIST xs)
+  unfolding view
+  notes-at p h = ap notes (slot-here NOTES NOTELIST 7 xs p h)
+
+module _ (xs : List ℕ) (size : length xs ≡ STORE) where
+  -- ---- the head
+  module _ (ys : List ℕ) (long : length ys ≡ HEAD) where
+    pub head-length : length (put 0 HEAD xs ys) ≡ STORE
+    head-length = put-length 0 HEAD xs ys (omega arith) long ∙ size
+
+    pub head-put : view (put 0 HEAD xs ys) ≡ with-head (view xs) ys
+    unfolding view
+    head-put =
+        let fits : 0 + HEAD ≤ length xs = omega arith in
+        rw (
+          part-put 0 HEAD xs ys fits long,
+          slots-behind LIVE MEMORY 13 xs 0 HEAD ys fits long (omega arith),
+          slots-behind COPY MEMORY 13 xs 0 HEAD ys fits long (omega arith),
+          slots-behind NOTES NOTELIST 7 xs 0 HEAD ys fits long (omega arith),
+          part-behind 0 HEAD xs ys fits long WIRE PACKETS (omega arith),
+        )
+
+  -- ---- chare c
+  module _ (c : ℕ) (h : c < 13) (ys : List ℕ) (long : length ys ≡ MEMORY) where
+    pub live-length : length (put (live-from c) MEMORY xs ys) ≡ STORE
+    live-length = put-length (live-from c) MEMORY xs ys (omega arith) long ∙ size
+
+    pub copy-length : length (put (copy-from c) MEMORY xs ys) ≡ STORE
+    copy-length = put-length (copy-from c) MEMORY xs ys (omega arith) long ∙ size
+
+    pub live-put : view (put (live-from c) MEMORY xs ys) ≡ with-memory (view xs) c (memory-view ys)
+    unfolding view
+    live-put =
+        let fits : live-from c + MEMORY ≤ length xs = omega arith in
+        rw (
+          part-before (live-from c) MEMORY xs ys fits long 0 HEAD (omega arith),
+          slots-put LIVE MEMORY 13 xs c ys h (omega arith) long,
+          slots-behind COPY MEMORY 13 xs (live-from c) MEMORY ys fits long (omega arith),
+          slots-behind NOTES NOTELIST 7 xs (live-from c) MEMORY ys fits long (omega arith),
+          part-behind (live-from c) MEMORY xs ys fits long WIRE PACKETS (omega arith),
+          over memory-view c ys (slots LIVE MEMORY 13 xs),
+        )
+
+    pub copy-put : view (put (copy-from c) MEMORY xs ys) ≡ with-copy (view xs) c (memory-view ys)
+    unfolding view
+    copy-put =
+        let fits : copy-from c + MEMORY ≤ length xs = omega arith in
+        rw (
+          part-before (copy-from c) MEMORY xs ys fits long 0 HEAD (omega arith),
+          slots-before LIVE MEMORY 13 xs (copy-from c) MEMORY ys fits long (omega arith),
+          slots-put COPY MEMORY 13 xs c ys h (omega arith) long,
+          slots-behind NOTES NOTELIST 7 xs (copy-from c) MEMORY ys fits long (omega arith),
+          part-behind (copy-from c) MEMORY xs ys fits long WIRE PACKETS (omega arith),
+          over memory-view c ys (slots COPY MEMORY 13 xs),
+        )
+
+    pub wire-kept : part WIRE PACKETS (put (live-from c) MEMORY xs ys) ≡ part WIRE PACKETS xs
+    wire-kept = part-behind (live-from c) MEMORY xs ys (omega arith) long WIRE PACKETS (omega arith)
+
+    -- as the functions on the memory answer
+    pub live-changed : (f : Memory → Memory) → memory-view ys ≡ f (memory-view (part (live-from c) MEMORY xs)) → view (put (live-from c) MEMORY xs ys) ≡ with-memory (view xs) c (f (view xs .live c))
+    live-changed f e = live-put ∙ ap (with-memory (view xs) c) (e ∙ ap f (sym (live-at xs c h)))
+
+  -- the memory of chare c copied over its copy
+  pub copied : (c : ℕ) → c < 13 → view (put (copy-from c) MEMORY xs (part (live-from c) MEMORY xs)) ≡ with-copy (view xs) c (view xs .live c)
+  copied c h = copy-put c h (part (live-from c) MEMORY xs) (part-length (live-from c) MEMORY xs (omega arith)) ∙ ap (with-copy (view xs) c) (sym (live-at xs c h))
+
+  -- ---- the notes kept for machine p
+  module _ (p : ℕ) (h : p < 7) (ys : List ℕ) (long : length ys ≡ NOTELIST) where
+    pub notes-length : length (put (notes-from p) NOTELIST xs ys) ≡ STORE
+    notes-length = put-length (notes-from p) NOTELIST xs ys (omega arith) long ∙ size
+
+    pub notes-put : view (put (notes-from p) NOTELIST xs ys) ≡ with-notes (view xs) (upd p (notes ys) (view xs .notes))
+    unfolding view
+    notes-put =
+        let fits : notes-from p + NOTELIST ≤ length xs = omega arith in
+        rw (
+          part-before (notes-from p) NOTELIST xs ys fits long 0 HEAD (omega arith),
+          slots-before LIVE MEMORY 13 xs (notes-from p) NOTELIST ys fits long (omega arith),
+          slots-before COPY MEMORY 13 xs (notes-from p) NOTELIST ys fits long (omega arith),
+          slots-put NOTES NOTELIST 7 xs p ys h (omega arith) long,
+          part-behind (notes-from p) NOTELIST xs ys fits long WIRE PACKETS (omega arith),
+          over notes p ys (slots NOTES NOTELIST 7 xs),
+        )
+
+  -- ---- the wire
+  module _ (ys : List ℕ) (long : length ys ≡ PACKETS) where
+    pub wire-length : length (put WIRE PACKETS xs ys) ≡ STORE
+    wire-length = put-length WIRE PACKETS xs ys (omega arith) long ∙ size
+
+    pub wire-put : view (put WIRE PACKETS xs ys) ≡ with-wire (view xs) (packets ys)
+    unfolding view
+    wire-put =
+        let fits : WIRE + PACKETS ≤ length xs = omega arith in
+        rw (
+          part-before WIRE PACKETS xs ys fits long 0 HEAD (omega arith),
+          slots-before LIVE MEMORY 13 xs WIRE PACKETS ys fits long (omega arith),
+          slots-before COPY MEMORY 13 xs WIRE PACKETS ys fits long (omega arith),
+          slots-before NOTES NOTELIST 7 xs WIRE PACKETS ys fits long (omega arith),
+          part-put WIRE PACKETS xs ys fits long,
+        )

@@ -1,0 +1,2 @@
+-- What the contracts of tickets say.
+pub mod Table

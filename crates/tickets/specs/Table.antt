@@ -1,0 +1,34 @@
+-- A table entry as an item of a row: the peer is the sender, the lower flag is received, the upper one noted. A table is a row of them.
+use mathlib.Core.List.{List, map}
+use mathlib.Core.Option.{Option, some, none}
+use Prim.Native.Nat.{ℕ, _/_, _%_}
+use lib.Dec.{eqb}
+use Rattle.protocol.specs.declared.Entry.{Entry}
+use Rattle.item.specs.declared.Item.{Item}
+use Rattle.item.specs.Item.{item-of}
+use Rattle.words.specs.Rows.{row}
+use Rattle.tickets.specs.declared.FoundEntry.{FoundEntry}
+use Rattle.tickets.specs.declared.FoundEntry.the-variants.{Nothing as NoEntry, At as EntryAt}
+use Rattle.tickets.specs.declared.FoundHole.{FoundHole}
+use Rattle.tickets.specs.declared.FoundHole.the-variants.{Nothing as NoHole, At as HoleAt}
+
+unfoldable pub as-entry : Item → Entry
+as-entry x = record { sender = x .peer; sn = x .sn; tn = x .tn; received = eqb (x .flags % 2) 1; noted = eqb (x .flags / 2) 1; value = x .value; hops = x .hops }
+
+unfoldable pub entry-of : ℕ → Entry
+entry-of w = as-entry (item-of w)
+
+-- an entry as a word can hold it
+unfoldable pub fitted : Entry → Entry
+fitted e = record { sender = e .sender % 16; sn = e .sn; tn = e .tn; received = e .received; noted = e .noted; value = e .value; hops = e .hops % 8 }
+
+unfoldable pub entries : List ℕ → List Entry
+entries ws = map entry-of (row ws)
+
+unfoldable pub found-entry : FoundEntry → Option Entry
+found-entry NoEntry = none
+found-entry (EntryAt e) = some e
+
+unfoldable pub found-hole : FoundHole → Option ℕ
+found-hole NoHole = none
+found-hole (HoleAt t) = some t
