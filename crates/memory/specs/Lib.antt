@@ -1,3 +1,4 @@
 -- A chare's memory as words.
 pub mod Places
 pub mod View
+pub mod Numbers

@@ -1,4 +1,11 @@
 // A chare's memory: 85 words, lent and changed in place.
+ghost use mathlib.Core.Path.{_≡_};
+ghost use Prim.Native.Nat.{_<_};
+ghost use lib.ListN.{length};
+ghost use Rattle.window.specs.Bits.{bits};
+ghost use Rattle.memory.specs.Places.{MEMORY};
+ghost use Rattle.memory.specs.View.{memory-view};
+ghost use Rattle.memory.specs.Numbers.{taken, given};
 
 // Where the parts begin.
 pub const STATE: usize = 0;
@@ -11,3 +18,87 @@ pub const TABLE: usize = WINDOW + 16;
 pub const ROW: usize = 17;
 pub const LOG: usize = TABLE + ROW;
 pub const MEMORY: usize = LOG + ROW;
+
+pub fn state(m: &[u64]) -> u32
+    requires { ⌜ length (now m) ≡ MEMORY ⌝ }
+    ensures { λ r. ⌜ r ≡ memory-view (now (m .entry)) .state ⌝ }
+{
+    (m[STATE] % 4294967296) as u32
+}
+
+pub fn height(m: &[u64]) -> u16
+    requires { ⌜ length (now m) ≡ MEMORY ⌝ }
+    ensures { λ r. ⌜ r ≡ memory-view (now (m .entry)) .height ⌝ }
+{
+    (m[HEIGHT] % 65536) as u16
+}
+
+pub fn top(m: &[u64]) -> u16
+    requires { ⌜ length (now m) ≡ MEMORY ⌝ }
+    ensures { λ r. ⌜ r ≡ memory-view (now (m .entry)) .top ⌝ }
+{
+    (m[TOP] % 65536) as u16
+}
+
+// The last SN sent to a receiver.
+pub fn sn(m: &[u64], receiver: u8) -> u16
+    requires { ⌜ length (now m) ≡ MEMORY ⌝ }
+    ensures { λ r. ⌜ r ≡ memory-view (now (m .entry)) .sn receiver ⌝ }
+{
+    if 16 <= receiver {
+        return 0;
+    }
+    (m[SN + receiver as usize] % 65536) as u16
+}
+
+pub fn mark(m: &[u64], sender: u8) -> u16
+    requires { ⌜ length (now m) ≡ MEMORY ⌝ }
+    ensures { λ r. ⌜ r ≡ memory-view (now (m .entry)) .mark sender ⌝ }
+{
+    if 16 <= sender {
+        return 0;
+    }
+    (m[MARK + sender as usize] % 65536) as u16
+}
+
+pub fn window(m: &[u64], sender: u8) -> u64
+    requires { ⌜ length (now m) ≡ MEMORY ⌝ }
+    ensures { λ r. ⌜ bits r ≡ memory-view (now (m .entry)) .window sender ⌝ }
+{
+    if 16 <= sender {
+        return 0;
+    }
+    m[WINDOW + sender as usize]
+}
+
+// The four words that a work changes: state, height, and the mark and window of the entry's sender, as they stand.
+pub struct Numbers {
+    pub state: u64,
+    pub height: u64,
+    pub mark: u64,
+    pub window: u64,
+}
+
+pub fn take(m: &[u64], sender: u8) -> Numbers
+    requires { ⌜ length (now m) ≡ MEMORY ⌝ }
+    requires { ⌜ sender < 16 ⌝ }
+    ensures { λ r. ⌜ r ≡ taken (now (m .entry)) sender ⌝ }
+{
+    Numbers {
+        state: m[STATE],
+        height: m[HEIGHT],
+        mark: m[MARK + sender as usize],
+        window: m[WINDOW + sender as usize],
+    }
+}
+
+pub fn give(m: &mut [u64], sender: u8, x: Numbers)
+    requires { ⌜ length (now m) ≡ MEMORY ⌝ }
+    requires { ⌜ sender < 16 ⌝ }
+    ensures { λ _. ⌜ now (m .exit) ≡ given (now (m .entry)) sender x ⌝ }
+{
+    m[STATE] = x.state;
+    m[HEIGHT] = x.height;
+    m[MARK + sender as usize] = x.mark;
+    m[WINDOW + sender as usize] = x.window;
+}

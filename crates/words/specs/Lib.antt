@@ -1,5 +1,6 @@
 -- A part of a lent store, rows of equal parts, and counted rows of words.
 pub mod Part
+pub mod PartSet
 pub mod Slots
 pub mod Rows
 pub mod Mapped

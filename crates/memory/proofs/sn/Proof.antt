@@ -1,0 +1,29 @@
+use Rattle.memory.specs.View.{sn-at, no-sn}
+use borrow.Author.Needs.{needs}
+use Rattle.memory.proofs.sn.Statement.{statement}
+use Rattle.memory.proofs.sn.Tie as tie
+use Rattle.memory.proofs.sn.Reads as reads
+use Rattle.memory.proofs.sn.Lts as lts
+
+returns : tie.Need-returns
+returns c = no-sn _ _ (search needs) (search needs)
+
+add-result : tie.Need-add-result
+add-result c = search needs
+
+mul-result : tie.Need-mul-result
+mul-result c = search needs
+
+shared-slice-read-result : tie.Need-shared-slice-read-result
+shared-slice-read-result c = search needs
+
+cast-result : tie.Need-cast-result
+cast-result c = search needs
+
+returns-2 : tie.Need-returns-2
+returns-2 c = sn-at _ _ (search needs)
+
+pub sn-spec : {M : Type 1} → statement M
+sn-spec =
+    tie.close
+    (tie.spec returns add-result mul-result shared-slice-read-result cast-result returns-2)

@@ -1,0 +1,24 @@
+use Rattle.memory.specs.View.{window-at, no-window}
+use borrow.Author.Needs.{needs}
+use Rattle.memory.proofs.window.Statement.{statement}
+use Rattle.memory.proofs.window.Tie as tie
+use Rattle.memory.proofs.window.Reads as reads
+use Rattle.memory.proofs.window.Lts as lts
+
+returns : tie.Need-returns
+returns c = no-window _ _ (search needs) (search needs)
+
+add-result : tie.Need-add-result
+add-result c = search needs
+
+mul-result : tie.Need-mul-result
+mul-result c = search needs
+
+shared-slice-read-result : tie.Need-shared-slice-read-result
+shared-slice-read-result c = search needs
+
+returns-2 : tie.Need-returns-2
+returns-2 c = window-at _ _ (search needs)
+
+pub window-spec : {M : Type 1} → statement M
+window-spec = tie.close (tie.spec returns add-result mul-result shared-slice-read-result returns-2)
