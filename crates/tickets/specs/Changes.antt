@@ -1,15 +1,14 @@
 -- A table whose words change: an entry at the place found, one more at the end, a ticket entered once, a table pruned.
 use mathlib.Core.Path.{_≡_, refl, sym, ap, _∙_}
-use mathlib.Core.Bool.{Bool, true, false, cond}
+use mathlib.Core.Bool.{true, false}
 use mathlib.Core.List.{List, [], _∷_, _++_, map}
 use mathlib.Core.Option.{some, none}
 use Prim.Native.Nat.{ℕ, _+_, _-_, _%_, _<_, _≤_}
 use native.Mathlib.Omega.{arith}
 use native.Mathlib.Nat.{mod-eq-of-lt}
 use borrow.Author.Tests.{le-leb, lt-leb}
-use lib.Dec.{leb}
-use lib.ListN.{length, getD, set, length-map, length-append}
-use Rattle.lists.specs.Lists.{anyb, keep, change1}
+use lib.ListN.{length, getD, set, length-append}
+use Rattle.lists.specs.Lists.{keep, change1}
 use Rattle.arrays.specs.Front.{push, push-fits}
 use Rattle.arrays.specs.Place.{place, any-there, none-there}
 use Rattle.protocol.specs.declared.Entry.{Entry}

@@ -1,5 +1,5 @@
 -- One word as an entry: its fields, its name, and what changes of it fit a word again.
-use mathlib.Core.Path.{_≡_, refl, ap, _∙_}
+use mathlib.Core.Path.{_≡_, refl}
 use mathlib.Core.Bool.{Bool, true, false}
 use Prim.Native.Nat.{ℕ, _+_, _*_, _/_, _%_, _<_, _≤_}
 use native.Mathlib.Omega.{arith}
@@ -7,7 +7,7 @@ use native.Mathlib.Nat.{mod-eq-of-lt}
 use borrow.Author.Tests.{lt-ltb, le-ltb}
 use lib.Dec.{eqb}
 use Rattle.protocol.specs.declared.Entry.{Entry}
-use Rattle.protocol.specs.Tickets.{for-message, fill, note-entry, unreceived}
+use Rattle.protocol.specs.Tickets.{for-message, fill, note-entry}
 use Rattle.protocol.specs.Checkpoint.{above-height}
 use Rattle.words.specs.Fields.{bit}
 use Rattle.words.specs.Rows.{named}

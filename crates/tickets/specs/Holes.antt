@@ -1,5 +1,5 @@
 -- The highest TN as a loop gathers it, the lowest hole as a loop seeks it, and what is read off from both.
-use mathlib.Core.Path.{_≡_, sym, _∙_}
+use mathlib.Core.Path.{_≡_, sym}
 use mathlib.Core.Bool.{true, false}
 use mathlib.Core.List.{List, [], _∷_}
 use mathlib.Core.Option.{some, none}

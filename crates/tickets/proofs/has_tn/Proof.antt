@@ -4,7 +4,7 @@ use Rattle.protocol.specs.Tickets.{has-tn}
 use Rattle.lists.specs.Lists.{anyb}
 use lib.ListN.{drop}
 use native.Mathlib.Omega.{arith}
-use Prim.Native.Nat.{_+_, _-_, _≤_}
+use Prim.Native.Nat.{_-_, _≤_}
 use mathlib.Core.Path.{_≡_, refl, sym, _∙_}
 use borrow.Author.Needs.{needs}
 use Rattle.tickets.proofs.has_tn.Statement.{statement}

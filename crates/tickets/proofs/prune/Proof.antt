@@ -8,9 +8,9 @@ use Rattle.protocol.specs.Tickets.{note-entry}
 use Rattle.lists.specs.Lists.{keep}
 use lib.ListN.{length, length-set}
 use native.Mathlib.Omega.{arith}
-use Prim.Native.Nat.{ℕ, _+_, _-_, _≤_, _<_}
+use Prim.Native.Nat.{_-_, _≤_, _<_}
 use mathlib.Core.List.{map}
-use mathlib.Core.Path.{_≡_, refl, sym, ap, _∙_}
+use mathlib.Core.Path.{_≡_, refl, sym, _∙_}
 use borrow.Author.Needs.{needs}
 use Rattle.tickets.proofs.prune.Statement.{statement}
 use Rattle.tickets.proofs.prune.Tie as tie
@@ -69,9 +69,14 @@ loop-less c = search needs
 loop-again : tie.Need-loop-again Inv-loop μ-loop
 loop-again c =
     let t = c .before .before in
-    let l = t .before .before .before .loop in
-    (search needs, search needs, simp length-set (l .inv .2), simp length-set (l .inv .3), l .inv .4 ∙ sym (sift-length (l .ws) (l .i) (l .k) _ (omega arith) (l .inv .0)),
-    sym (sift-keep entry-of (above-height _) note-entry (l .ws) (l .i) (l .k) _ (omega arith) (l .inv .0) (is-above _ _ _ (t .tn .ensures) (c .before .if2 .taken)) (c .noted .ensures)) ∙ l .inv .5)
+    let l = t .before .before .before .loop in (
+      search needs,
+      search needs,
+      simp length-set (l .inv .2),
+      simp length-set (l .inv .3),
+      l .inv .4 ∙ sym (sift-length (l .ws) (l .i) (l .k) _ (omega arith) (l .inv .0)),
+      sym (sift-keep entry-of (above-height _) note-entry (l .ws) (l .i) (l .k) _ (omega arith) (l .inv .0) (is-above _ _ _ (t .tn .ensures) (c .before .if2 .taken)) (c .noted .ensures)) ∙ l .inv .5,
+    )
 
 loop-less-2 : tie.Need-loop-less-2 Inv-loop μ-loop
 loop-less-2 c = search needs

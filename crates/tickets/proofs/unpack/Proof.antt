@@ -1,5 +1,4 @@
 use Rattle.tickets.specs.Table.{entry-of, as-entry}
-use mathlib.Core.Path.{refl}
 use borrow.Author.Needs.{needs}
 use Rattle.tickets.proofs.unpack.Statement.{statement}
 use Rattle.tickets.proofs.unpack.Tie as tie
