@@ -1,9 +1,14 @@
 -- A table entry as an item of a row: the peer is the sender, the lower flag is received, the upper one noted. A table is a row of them.
+use mathlib.Core.Path.{_≡_}
+use mathlib.Core.Bool.{Bool, cond}
 use mathlib.Core.List.{List, map}
 use mathlib.Core.Option.{Option, some, none}
-use Prim.Native.Nat.{ℕ, _/_, _%_}
-use lib.Dec.{eqb}
+use Prim.Native.Nat.{ℕ, _-_, _/_, _%_}
+use lib.Dec.{eqb, leb}
+use lib.ListN.{length}
 use Rattle.protocol.specs.declared.Entry.{Entry}
+use Rattle.protocol.specs.Tickets.{unreceived}
+use Rattle.protocol.specs.Restart.{enter}
 use Rattle.item.specs.declared.Item.{Item}
 use Rattle.item.specs.Item.{item-of}
 use Rattle.words.specs.Rows.{row}
@@ -32,3 +37,8 @@ found-entry (EntryAt e) = some e
 unfoldable pub found-hole : FoundHole → Option ℕ
 found-hole NoHole = none
 found-hole (HoleAt t) = some t
+
+-- a ticket is entered where the table has room for what it then holds; else the table stays
+pub record Entering (before : List ℕ) (s n tn : ℕ) (after : List ℕ) (r : Bool) : Type 0 where
+  pub fits : r ≡ leb (length (enter (entries before) (unreceived s n tn))) (length before - 1)
+  pub table : entries after ≡ cond r (enter (entries before) (unreceived s n tn)) (entries before)

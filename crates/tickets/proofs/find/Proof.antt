@@ -1,0 +1,35 @@
+use Rattle.tickets.specs.Table.{found-entry}
+use Rattle.tickets.specs.Changes.{found-there, found-none}
+use native.Mathlib.Omega.{arith}
+use mathlib.Core.Path.{_∙_, ap}
+use mathlib.Core.Option.{some}
+use borrow.Author.Needs.{needs}
+use Rattle.tickets.proofs.find.Statement.{statement}
+use Rattle.tickets.proofs.find.Tie as tie
+
+seek-requires : tie.Need-seek-requires
+seek-requires c κs = search needs
+
+count-requires : tie.Need-count-requires
+count-requires c κs = search needs
+
+read-requires : tie.Need-read-requires
+read-requires c κs = search needs
+
+unpack-requires : tie.Need-unpack-requires
+unpack-requires c κs = search needs
+
+returns : tie.Need-returns
+returns c =
+    let k = c .before .before .before in
+    unfold found-entry in
+    ap some (c .unpack .ensures ∙ rw (c .before .read .ensures))
+    ∙ found-there _ _ (search needs) _ _ (k .before .seek .ensures) (omega arith)
+
+returns-2 : tie.Need-returns-2
+returns-2 c = unfold found-entry in found-none _ _ (search needs) _ _ (c .before .before .seek .ensures) (omega arith)
+
+pub find-spec : {M : Type 1} → statement M
+find-spec =
+    tie.close
+    (tie.spec seek-requires count-requires read-requires unpack-requires returns returns-2)

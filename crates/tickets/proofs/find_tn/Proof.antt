@@ -1,0 +1,79 @@
+use Rattle.tickets.specs.Table.{entries, found-entry}
+use Rattle.tickets.specs.Loops.{first-here, first-later, first-none}
+use Rattle.protocol.specs.Tickets.{has-tn}
+use Rattle.lists.specs.Lists.{find}
+use lib.ListN.{drop}
+use native.Mathlib.Omega.{arith}
+use Prim.Native.Nat.{_-_, _≤_}
+use mathlib.Core.Option.{some}
+use mathlib.Core.Path.{_≡_, refl, sym, ap, _∙_}
+use borrow.Author.Needs.{needs}
+use Rattle.tickets.proofs.find_tn.Statement.{statement}
+use Rattle.tickets.proofs.find_tn.Tie as tie
+
+abbrev Inv-loop : tie.InvT-loop
+Inv-loop ws tn n i₀ i = (i ≤ n) × (find (has-tn tn) (entries ws) ≡ find (has-tn tn) (drop i (entries ws)))
+
+abbrev μ-loop : tie.MeasureT-loop
+μ-loop ws tn n i₀ i = n - i
+
+count-requires : tie.Need-count-requires Inv-loop μ-loop
+count-requires c κs = search needs
+
+loop-holds : tie.Need-loop-holds Inv-loop μ-loop
+loop-holds c = (search needs, refl)
+
+add-w : tie.Need-add-w Inv-loop μ-loop
+add-w c = search needs
+
+mul-w : tie.Need-mul-w Inv-loop μ-loop
+mul-w c = search needs
+
+shared-slice-read-w : tie.Need-shared-slice-read-w Inv-loop μ-loop
+shared-slice-read-w c = search needs
+
+tn-requires : tie.Need-tn-requires Inv-loop μ-loop
+tn-requires c κs = search needs
+
+unpack-requires : tie.Need-unpack-requires Inv-loop μ-loop
+unpack-requires c κs = search needs
+
+returns : tie.Need-returns Inv-loop μ-loop
+returns c =
+    let t = c .before .before in
+    let l = t .before .before .before .loop in
+    unfold found-entry in ap some (c .unpack .ensures) ∙ sym (l .inv .1 ∙ first-here _ (l .i) _ (omega arith) (sym (t .tn .ensures) ∙ c .before .if1 .taken))
+
+add-i : tie.Need-add-i Inv-loop μ-loop
+add-i c = search needs
+
+loop-less : tie.Need-loop-less Inv-loop μ-loop
+loop-less c = search needs
+
+loop-again : tie.Need-loop-again Inv-loop μ-loop
+loop-again c =
+    let t = c .before in
+    let l = t .before .before .before .loop in
+    (search needs, l .inv .1 ∙ first-later _ (l .i) _ (omega arith) (λ q. c .if1 .left (t .tn .ensures ∙ q)))
+
+returns-2 : tie.Need-returns-2 Inv-loop μ-loop
+returns-2 c = let l = c .before .loop in unfold found-entry in sym (l .inv .1 ∙ first-none _ (l .i) _ (omega arith))
+
+pub find-tn-spec : {M : Type 1} → statement M
+find-tn-spec =
+    tie.close
+    (tie.spec
+    Inv-loop
+    μ-loop
+    count-requires
+    loop-holds
+    add-w
+    mul-w
+    shared-slice-read-w
+    tn-requires
+    unpack-requires
+    returns
+    add-i
+    loop-less
+    loop-again
+    returns-2)

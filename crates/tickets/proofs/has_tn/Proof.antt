@@ -1,0 +1,74 @@
+use Rattle.tickets.specs.Table.{entries}
+use Rattle.tickets.specs.Loops.{has-here, has-later, has-none}
+use Rattle.protocol.specs.Tickets.{has-tn}
+use Rattle.lists.specs.Lists.{anyb}
+use lib.ListN.{drop}
+use native.Mathlib.Omega.{arith}
+use Prim.Native.Nat.{_-_, _≤_}
+use mathlib.Core.Path.{_≡_, refl, sym, _∙_}
+use borrow.Author.Needs.{needs}
+use Rattle.tickets.proofs.has_tn.Statement.{statement}
+use Rattle.tickets.proofs.has_tn.Tie as tie
+
+abbrev Inv-loop : tie.InvT-loop
+Inv-loop ws tn n i₀ i = (i ≤ n) × (anyb (has-tn tn) (entries ws) ≡ anyb (has-tn tn) (drop i (entries ws)))
+
+abbrev μ-loop : tie.MeasureT-loop
+μ-loop ws tn n i₀ i = n - i
+
+count-requires : tie.Need-count-requires Inv-loop μ-loop
+count-requires c κs = search needs
+
+loop-holds : tie.Need-loop-holds Inv-loop μ-loop
+loop-holds c = (search needs, refl)
+
+add-tn : tie.Need-add-tn Inv-loop μ-loop
+add-tn c = search needs
+
+mul-tn : tie.Need-mul-tn Inv-loop μ-loop
+mul-tn c = search needs
+
+shared-slice-read-tn : tie.Need-shared-slice-read-tn Inv-loop μ-loop
+shared-slice-read-tn c = search needs
+
+tn-requires : tie.Need-tn-requires Inv-loop μ-loop
+tn-requires c κs = search needs
+
+returns : tie.Need-returns Inv-loop μ-loop
+returns c =
+    let t = c .before in
+    let l = t .before .before .before .loop in
+    sym (l .inv .1 ∙ has-here _ (l .i) _ (omega arith) (sym (t .tn .ensures) ∙ c .if1 .taken))
+
+add-i : tie.Need-add-i Inv-loop μ-loop
+add-i c = search needs
+
+loop-less : tie.Need-loop-less Inv-loop μ-loop
+loop-less c = search needs
+
+loop-again : tie.Need-loop-again Inv-loop μ-loop
+loop-again c =
+    let t = c .before in
+    let l = t .before .before .before .loop in
+    (search needs, l .inv .1 ∙ has-later _ (l .i) _ (omega arith) (λ q. c .if1 .left (t .tn .ensures ∙ q)))
+
+returns-2 : tie.Need-returns-2 Inv-loop μ-loop
+returns-2 c = let l = c .before .loop in sym (l .inv .1 ∙ has-none _ (l .i) _ (omega arith))
+
+pub has-tn-spec : {M : Type 1} → statement M
+has-tn-spec =
+    tie.close
+    (tie.spec
+    Inv-loop
+    μ-loop
+    count-requires
+    loop-holds
+    add-tn
+    mul-tn
+    shared-slice-read-tn
+    tn-requires
+    returns
+    add-i
+    loop-less
+    loop-again
+    returns-2)

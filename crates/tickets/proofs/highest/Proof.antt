@@ -1,0 +1,77 @@
+use Rattle.tickets.specs.Table.{entries}
+use Rattle.tickets.specs.Loops.{highest-more, highest-same, highest-end}
+use Rattle.protocol.specs.Tickets.{highest}
+use lib.ListN.{drop}
+use native.Mathlib.Omega.{arith}
+use Prim.Native.Nat.{_-_, _≤_}
+use mathlib.Core.Path.{_≡_, refl, sym, _∙_}
+use borrow.Author.Needs.{needs}
+use Rattle.tickets.proofs.highest.Statement.{statement}
+use Rattle.tickets.proofs.highest.Tie as tie
+
+abbrev Inv-loop : tie.InvT-loop
+Inv-loop ws height n h₀ i₀ h i = (i ≤ n) × (highest height (entries ws) ≡ highest h (drop i (entries ws)))
+
+abbrev μ-loop : tie.MeasureT-loop
+μ-loop ws height n h₀ i₀ h i = n - i
+
+count-requires : tie.Need-count-requires Inv-loop μ-loop
+count-requires c κs = search needs
+
+loop-holds : tie.Need-loop-holds Inv-loop μ-loop
+loop-holds c = (search needs, refl)
+
+add-tn : tie.Need-add-tn Inv-loop μ-loop
+add-tn c = search needs
+
+mul-tn : tie.Need-mul-tn Inv-loop μ-loop
+mul-tn c = search needs
+
+shared-slice-read-tn : tie.Need-shared-slice-read-tn Inv-loop μ-loop
+shared-slice-read-tn c = search needs
+
+tn-requires : tie.Need-tn-requires Inv-loop μ-loop
+tn-requires c κs = search needs
+
+add-i : tie.Need-add-i Inv-loop μ-loop
+add-i c = search needs
+
+loop-less : tie.Need-loop-less Inv-loop μ-loop
+loop-less c = search needs
+
+loop-again : tie.Need-loop-again Inv-loop μ-loop
+loop-again c =
+    let t = c .before in
+    let l = t .before .before .before .loop in
+    (search needs, l .inv .1 ∙ highest-more _ (l .i) (l .h) _ (omega arith) (t .tn .ensures) (c .if1 .taken))
+
+loop-less-2 : tie.Need-loop-less-2 Inv-loop μ-loop
+loop-less-2 c = search needs
+
+loop-again-2 : tie.Need-loop-again-2 Inv-loop μ-loop
+loop-again-2 c =
+    let t = c .before in
+    let l = t .before .before .before .loop in
+    (search needs, l .inv .1 ∙ highest-same _ (l .i) (l .h) _ (omega arith) (t .tn .ensures) (c .if1 .left))
+
+returns : tie.Need-returns Inv-loop μ-loop
+returns c = let l = c .before .loop in sym (l .inv .1 ∙ highest-end _ (l .i) (l .h) (omega arith))
+
+pub highest-spec : {M : Type 1} → statement M
+highest-spec =
+    tie.close
+    (tie.spec
+    Inv-loop
+    μ-loop
+    count-requires
+    loop-holds
+    add-tn
+    mul-tn
+    shared-slice-read-tn
+    tn-requires
+    add-i
+    loop-less
+    loop-again
+    loop-less-2
+    loop-again-2
+    returns)

@@ -1,0 +1,66 @@
+use mathlib.Core.Path.{_≡_, sym, _∙_}
+use Prim.Native.Nat.{_-_, _≤_}
+use native.Mathlib.Omega.{arith}
+use borrow.Author.Needs.{needs}
+use borrow.Author.Tests.{not-true, not-false}
+use Rattle.protocol.specs.Tickets.{lowest-hole, first-free}
+use Rattle.tickets.specs.Table.{entries, found-hole}
+use Rattle.tickets.specs.Holes.{no-span, hole-start, hole-here, hole-later, no-hole}
+use Rattle.tickets.proofs.lowest_hole.Statement.{statement}
+use Rattle.tickets.proofs.lowest_hole.Tie as tie
+
+abbrev Inv-loop : tie.InvT-loop
+Inv-loop ws height top n₀ n = (n ≤ top) × (lowest-hole height top (entries ws) ≡ first-free (top - n) n (entries ws))
+
+abbrev μ-loop : tie.MeasureT-loop
+μ-loop ws height top n₀ n = top - n
+
+returns : tie.Need-returns Inv-loop μ-loop
+unfolding found-hole
+returns c = sym (no-span _ _ _ (c .if1 .taken))
+
+add-n : tie.Need-add-n Inv-loop μ-loop
+add-n c = search needs
+
+loop-holds : tie.Need-loop-holds Inv-loop μ-loop
+loop-holds c = (search needs, hole-start _ _ _ (c .if1 .left))
+
+has-tn-requires : tie.Need-has-tn-requires Inv-loop μ-loop
+has-tn-requires c κs = search needs
+
+returns-2 : tie.Need-returns-2 Inv-loop μ-loop
+unfolding found-hole
+returns-2 c =
+    let l = c .before .before .before .loop in
+    sym (l .inv .1 ∙ hole-here _ _ _ (omega arith) (sym (c .before .has-tn .ensures) ∙ not-true _ (c .if2 .taken)))
+
+add-n-2 : tie.Need-add-n-2 Inv-loop μ-loop
+add-n-2 c = search needs
+
+loop-less : tie.Need-loop-less Inv-loop μ-loop
+loop-less c = search needs
+
+loop-again : tie.Need-loop-again Inv-loop μ-loop
+loop-again c =
+    let l = c .before .before .before .loop in
+    (search needs, l .inv .1 ∙ hole-later _ _ _ (omega arith) (sym (c .before .has-tn .ensures) ∙ not-false _ (c .if2 .left)))
+
+returns-3 : tie.Need-returns-3 Inv-loop μ-loop
+unfolding found-hole
+returns-3 c = let l = c .before .loop in sym (l .inv .1 ∙ no-hole _ _ _ (omega arith))
+
+pub lowest-hole-spec : {M : Type 1} → statement M
+lowest-hole-spec =
+    tie.close
+    (tie.spec
+    Inv-loop
+    μ-loop
+    returns
+    add-n
+    loop-holds
+    has-tn-requires
+    returns-2
+    add-n-2
+    loop-less
+    loop-again
+    returns-3)

@@ -1,0 +1,33 @@
+use Rattle.tickets.specs.EntryLaws.{entry-says}
+use Rattle.words.specs.Fields.{bit}
+use mathlib.Core.Path.{_≡_}
+use borrow.Author.Needs.{needs}
+use Rattle.tickets.proofs.pack.Statement.{statement}
+use Rattle.tickets.proofs.pack.Tie as tie
+
+bit-requires : tie.Need-bit-requires
+bit-requires c κs = search needs
+
+bit-requires-2 : tie.Need-bit-requires-2
+bit-requires-2 c κs = search needs
+
+mul-flags : tie.Need-mul-flags
+mul-flags c = search needs
+
+add-flags : tie.Need-add-flags
+add-flags c = search needs
+
+pack-requires : tie.Need-pack-requires
+pack-requires c κs = search needs
+
+returns : tie.Need-returns
+returns c =
+    let d = c .before in
+    let e = d .before .before .args .e in
+    let a : d .before .bit .result ≡ bit (e .received) = d .before .bit .ensures .0 in
+    let b : d .bit2 .result ≡ bit (e .noted) = d .bit2 .ensures .0 in
+    entry-says _ _ e (c .pack .ensures) (rw (a, b))
+
+pub pack-spec : {M : Type 1} → statement M
+pack-spec =
+    tie.close (tie.spec bit-requires bit-requires-2 mul-flags add-flags pack-requires returns)

@@ -1,0 +1,127 @@
+use Rattle.tickets.specs.Table.{entry-of, entries}
+use Rattle.tickets.specs.EntryLaws.{is-above, is-below}
+use Rattle.tickets.specs.Changes.{prune-none, prune-start, prune-end}
+use Rattle.words.specs.Sift.{sifted, sift-length, sift-keep, sift-skip, sift-end}
+use Rattle.words.specs.Rows.{row}
+use Rattle.protocol.specs.Checkpoint.{above-height}
+use Rattle.protocol.specs.Tickets.{note-entry}
+use Rattle.lists.specs.Lists.{keep}
+use lib.ListN.{length, length-set}
+use native.Mathlib.Omega.{arith}
+use Prim.Native.Nat.{_-_, _≤_, _<_}
+use mathlib.Core.List.{map}
+use mathlib.Core.Path.{_≡_, refl, sym, _∙_}
+use borrow.Author.Needs.{needs}
+use Rattle.tickets.proofs.prune.Statement.{statement}
+use Rattle.tickets.proofs.prune.Tie as tie
+
+abbrev Inv-loop : tie.InvT-loop
+Inv-loop ws₀ height n i₀ k₀ ws i k = (k ≤ i) × (i ≤ n) × (n < length ws) × (length ws ≡ length ws₀) × (n ≡ length (row ws)) × (sifted entry-of (above-height height) note-entry ws i k ≡ map note-entry (keep (above-height height) (entries ws₀)))
+
+abbrev μ-loop : tie.MeasureT-loop
+μ-loop ws₀ height n i₀ k₀ ws i k = n - i
+
+count-requires : tie.Need-count-requires Inv-loop μ-loop
+count-requires c κs = search needs
+
+same-length : tie.Need-same-length Inv-loop μ-loop
+same-length c = search needs
+
+returns : tie.Need-returns Inv-loop μ-loop
+returns c = prune-none _ _ (omega arith)
+
+loop-holds : tie.Need-loop-holds Inv-loop μ-loop
+loop-holds c = (search needs, search needs, omega arith, refl, c .before .count .ensures .0, prune-start _ _)
+
+add-w : tie.Need-add-w Inv-loop μ-loop
+add-w c = search needs
+
+mul-w : tie.Need-mul-w Inv-loop μ-loop
+mul-w c = search needs
+
+slice-read-w : tie.Need-slice-read-w Inv-loop μ-loop
+slice-read-w c = search needs
+
+add-i : tie.Need-add-i Inv-loop μ-loop
+add-i c = search needs
+
+tn-requires : tie.Need-tn-requires Inv-loop μ-loop
+tn-requires c κs = search needs
+
+noted-requires : tie.Need-noted-requires Inv-loop μ-loop
+noted-requires c κs = search needs
+
+add-ws : tie.Need-add-ws Inv-loop μ-loop
+add-ws c = search needs
+
+mul-ws : tie.Need-mul-ws Inv-loop μ-loop
+mul-ws c = search needs
+
+slice-write-ws : tie.Need-slice-write-ws Inv-loop μ-loop
+slice-write-ws c = search needs
+
+add-k : tie.Need-add-k Inv-loop μ-loop
+add-k c = search needs
+
+loop-less : tie.Need-loop-less Inv-loop μ-loop
+loop-less c = search needs
+
+loop-again : tie.Need-loop-again Inv-loop μ-loop
+loop-again c =
+    let t = c .before .before in
+    let l = t .before .before .before .loop in (
+      search needs,
+      search needs,
+      simp length-set (l .inv .2),
+      simp length-set (l .inv .3),
+      l .inv .4 ∙ sym (sift-length (l .ws) (l .i) (l .k) _ (omega arith) (l .inv .0)),
+      sym (sift-keep entry-of (above-height _) note-entry (l .ws) (l .i) (l .k) _ (omega arith) (l .inv .0) (is-above _ _ _ (t .tn .ensures) (c .before .if2 .taken)) (c .noted .ensures)) ∙ l .inv .5,
+    )
+
+loop-less-2 : tie.Need-loop-less-2 Inv-loop μ-loop
+loop-less-2 c = search needs
+
+loop-again-2 : tie.Need-loop-again-2 Inv-loop μ-loop
+loop-again-2 c =
+    let t = c .before in
+    let l = t .before .before .before .loop in
+    (search needs, search needs, l .inv .2, l .inv .3, l .inv .4, sym (sift-skip entry-of (above-height _) note-entry (l .ws) (l .i) (l .k) (omega arith) (is-below _ _ _ (t .tn .ensures) (c .if2 .left))) ∙ l .inv .5)
+
+slice-write-ws-2 : tie.Need-slice-write-ws-2 Inv-loop μ-loop
+slice-write-ws-2 c = search needs
+
+same-length-2 : tie.Need-same-length-2 Inv-loop μ-loop
+same-length-2 c = search needs
+
+returns-2 : tie.Need-returns-2 Inv-loop μ-loop
+returns-2 c =
+    let l = c .before .loop in
+    prune-end _ _ _ (sift-end entry-of (above-height _) note-entry (l .ws) (l .i) (l .k) _ (omega arith) (l .inv .4) (omega arith) (omega arith) ∙ l .inv .5)
+
+pub prune-spec : {M : Type 1} → statement M
+prune-spec =
+    tie.close
+    (tie.spec
+    Inv-loop
+    μ-loop
+    count-requires
+    same-length
+    returns
+    loop-holds
+    add-w
+    mul-w
+    slice-read-w
+    add-i
+    tn-requires
+    noted-requires
+    add-ws
+    mul-ws
+    slice-write-ws
+    add-k
+    loop-less
+    loop-again
+    loop-less-2
+    loop-again-2
+    slice-write-ws-2
+    same-length-2
+    returns-2)

@@ -1,0 +1,43 @@
+use mathlib.Core.Path.{sym, ap, _∙_}
+use native.Mathlib.Omega.{arith}
+use borrow.Author.Needs.{needs}
+use Rattle.tickets.specs.Table.{found-hole}
+use Rattle.tickets.specs.Holes.{hole-above, target-hole, target-highest}
+use Rattle.tickets.proofs.target.Statement.{statement}
+use Rattle.tickets.proofs.target.Tie as tie
+
+lowest-hole-requires : tie.Need-lowest-hole-requires
+lowest-hole-requires c κs = search needs
+
+enum-known-n : tie.Need-enum-known-n
+enum-known-n c = search needs
+
+sub-result : tie.Need-sub-result
+unfolding found-hole
+sub-result c = omega (arith, hole-above _ _ _ (sym (ap found-hole (c .before .n .given .1)) ∙ c .before .before .before .lowest-hole .ensures))
+
+enum-told : tie.Need-enum-told
+enum-told c = search needs
+
+highest-requires : tie.Need-highest-requires
+highest-requires c κs = search needs
+
+returns : tie.Need-returns
+unfolding found-hole
+returns c = target-hole _ _ _ (sym (ap found-hole (c .before .n .given .1)) ∙ c .before .before .before .lowest-hole .ensures)
+
+returns-2 : tie.Need-returns-2
+unfolding found-hole
+returns-2 c = c .highest .ensures ∙ target-highest _ _ _ (sym (ap found-hole (c .before .enum-told .given .1)) ∙ c .before .before .before .lowest-hole .ensures)
+
+pub target-spec : {M : Type 1} → statement M
+target-spec =
+    tie.close
+    (tie.spec
+    lowest-hole-requires
+    enum-known-n
+    sub-result
+    enum-told
+    highest-requires
+    returns
+    returns-2)
