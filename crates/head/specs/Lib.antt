@@ -1,2 +1,7 @@
--- What the contracts of head say.
+-- What the contracts of head say, and the laws behind them.
 pub mod Head
+pub mod Cells
+pub mod HeadLaws
+pub mod PartSet
+pub mod Kept
+pub mod Sets

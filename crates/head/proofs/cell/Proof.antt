@@ -1,0 +1,20 @@
+-- `head::cell` meets its contract: 0 at 0, the clamped word elsewhere.
+use borrow.Author.Needs.{needs}
+use Rattle.head.specs.Cells.{cell-zero, cell-read}
+use Rattle.head.proofs.cell.Statement.{statement}
+use Rattle.head.proofs.cell.Tie as tie
+
+returns : tie.Need-returns
+returns c = (cell-zero _ _ _ (c .if1 .taken), search needs)
+
+word-requires : tie.Need-word-requires
+word-requires c κs = search needs
+
+at-most-requires : tie.Need-at-most-requires
+at-most-requires c κs = search needs
+
+returns-2 : tie.Need-returns-2
+returns-2 c = cell-read _ _ _ (c .before .before .if1 .left) _ _ (c .before .word .ensures) (c .at-most .ensures)
+
+pub cell-spec : {M : Type 1} → statement M
+cell-spec = tie.close (tie.spec returns word-requires at-most-requires returns-2)

@@ -1,0 +1,63 @@
+-- `head::copy` meets its contract: i words are copied.
+use mathlib.Core.Path.{_≡_, refl}
+use Prim.Native.Nat.{_-_, _≤_}
+use native.Mathlib.Omega.{arith}
+use borrow.Author.Needs.{needs}
+use lib.ListN.{length, length-set, take}
+use Rattle.head.specs.Head.{HEAD}
+use Rattle.head.specs.HeadLaws.{copy-one, copy-all}
+use Rattle.head.proofs.copy.Statement.{statement}
+use Rattle.head.proofs.copy.Tie as tie
+
+abbrev Inv-loop : tie.InvT-loop
+Inv-loop h a₀ i₀ a i = (i ≤ HEAD) × (length a ≡ HEAD) × (take i a ≡ take i h)
+
+abbrev μ-loop : tie.MeasureT-loop
+μ-loop h a₀ i₀ a i = HEAD - i
+
+loop-holds : tie.Need-loop-holds Inv-loop μ-loop
+loop-holds c = (search needs, refl, refl)
+
+mul-a : tie.Need-mul-a Inv-loop μ-loop
+mul-a c = search needs
+
+shared-slice-read-a : tie.Need-shared-slice-read-a Inv-loop μ-loop
+shared-slice-read-a c = search needs
+
+mul-a-2 : tie.Need-mul-a-2 Inv-loop μ-loop
+mul-a-2 c = search needs
+
+array-write-a : tie.Need-array-write-a Inv-loop μ-loop
+array-write-a c = search needs
+
+add-i : tie.Need-add-i Inv-loop μ-loop
+add-i c = search needs
+
+loop-less : tie.Need-loop-less Inv-loop μ-loop
+loop-less c = search needs
+
+loop-again : tie.Need-loop-again Inv-loop μ-loop
+loop-again c =
+    let l = c .before .before in
+    (search needs, simp length-set (l .loop .inv .1), copy-one _ _ (l .loop .i) (l .before .pre) (l .loop .inv .1) (l .loop .inv .2) (omega arith))
+
+returns : tie.Need-returns Inv-loop μ-loop
+returns c =
+    let l = c .before in
+    copy-all _ _ (l .loop .i) (l .before .pre) (l .loop .inv .1) (l .loop .inv .2) (omega arith)
+
+pub copy-spec : {M : Type 1} → statement M
+copy-spec =
+    tie.close
+    (tie.spec
+    Inv-loop
+    μ-loop
+    loop-holds
+    mul-a
+    shared-slice-read-a
+    mul-a-2
+    array-write-a
+    add-i
+    loop-less
+    loop-again
+    returns)

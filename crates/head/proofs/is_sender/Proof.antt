@@ -1,0 +1,13 @@
+-- `head::is_sender` meets its contract: by what `chares` ensures.
+use borrow.Author.Needs.{needs}
+use Rattle.head.proofs.is_sender.Statement.{statement}
+use Rattle.head.proofs.is_sender.Tie as tie
+
+chares-requires : tie.Need-chares-requires
+chares-requires c κs = search needs
+
+returns : tie.Need-returns
+returns c = rw (c .chares .ensures .0)
+
+pub is-sender-spec : {M : Type 1} → statement M
+is-sender-spec = tie.close (tie.spec chares-requires returns)
