@@ -2,6 +2,5 @@
 pub mod Head
 pub mod Cells
 pub mod HeadLaws
-pub mod PartSet
 pub mod Kept
 pub mod Sets

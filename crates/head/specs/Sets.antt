@@ -12,7 +12,7 @@ use Rattle.arrays.specs.ArrayMap.{as-map}
 use Rattle.words.specs.Part.{part, part-length}
 use Rattle.head.specs.Head.{HEAD, LOST, BUDDY, STATUS, HELD, HOME, FIRST, SECOND, TARGET, job-of, lost-of, as-status, status-of, held-of, target-of}
 use Rattle.head.specs.Kept.{Says}
-use Rattle.head.specs.PartSet.{part-set, part-set-before, part-apart}
+use Rattle.words.specs.PartSet.{part-set, part-set-before, part-apart}
 
 -- the store's other parts
 pub behind-set : (b j : ℕ) (xs : List ℕ) (i w : ℕ) → i < HEAD → HEAD ≤ b → part b j (set xs i w) ≡ part b j xs

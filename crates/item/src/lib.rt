@@ -4,14 +4,17 @@ ghost use mathlib.Core.Path.{_≡_};
 ghost use Prim.Native.Nat.{_<_};
 ghost use Rattle.item.specs.Item.{item-of, clipped};
 ghost use Rattle.words.specs.Fields.{bit};
-
 use words::OWNER;
 use words::PEER;
 
 pub const KIND: u64 = 16 * OWNER;
+
 pub const TN: u64 = 8 * KIND;
+
 pub const VALUE: u64 = 65536 * TN;
+
 pub const HOPS: u64 = 65536 * VALUE;
+
 pub const FLAGS: u64 = 8 * HOPS;
 
 pub struct Item {

@@ -10,7 +10,7 @@ use Rattle.protocol.specs.Parts.{State}
 use Rattle.protocol.specs.Step.{Outcome, judged}
 use Rattle.words.specs.Part.{part}
 use Rattle.words.specs.Slots.{slots}
-use Rattle.head.specs.Head.{HEAD, job-of, lost-of, status-of, held-of, target-of}
+use Rattle.head.specs.Head.{job-of, lost-of, status-of, held-of, target-of}
 use Rattle.notelist.specs.Notes.{notes}
 use Rattle.packets.specs.Words.{packets}
 use Rattle.memory.specs.Places.{MEMORY}
@@ -19,12 +19,12 @@ use Rattle.store.specs.Places.{LIVE, COPY, NOTES, NOTELIST, WIRE, PACKET
 
 unfoldable pub view : List ℕ → State
 view xs = record {
-  job = job-of (part 0 HEAD xs);
-  lost = lost-of (part 0 HEAD xs);
-  status = status-of (part 0 HEAD xs);
-  target = target-of (part 0 HEAD xs);
+  job = job-of xs;
+  lost = lost-of xs;
+  status = status-of xs;
+  target = target-of xs;
   live = λ c. memory-view (slots LIVE MEMORY 13 xs c);
-  held = held-of (part 0 HEAD xs);
+  held = held-of xs;
   copy = λ c. memory-view (slots COPY MEMORY 13 xs c);
   notes = λ p. notes (slots NOTES NOTELIST 7 xs p);
   wire = packets (part WIRE PACKETS xs);

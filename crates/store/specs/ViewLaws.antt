@@ -1,17 +1,21 @@
 -- A part of the store put anew changes that part of the view, and no other. All arithmetic on places is here.
 use mathlib.Core.Path.{_≡_, refl, sym, ap, _∙_, fun-ext}
-use mathlib.Core.List.{List, []}
+use mathlib.Core.Bool.{Bool}
+use mathlib.Core.List.{List}
 use mathlib.Core.Logic.{inl}
 use Prim.Native.Nat.{ℕ, _+_, _*_, _≤_, _<_}
 use native.Mathlib.Omega.{arith}
-use lib.ListN.{length}
+use lib.Dec.{eqb}
+use lib.ListN.{length, set}
 use Rattle.lists.specs.Map.{upd, upd-ind, upd-same, upd-other}
-use Rattle.protocol.specs.declared.Note.{Note}
-use Rattle.protocol.specs.Parts.{State, Memory, with-memory, with-copies, with-notes, with-wire}
+use Rattle.protocol.specs.declared.Status.{Status}
+use Rattle.protocol.specs.Parts.{Job, State, Memory, with-lost, with-status, with-memory, with-copies, with-notes, with-wire}
 use Rattle.words.specs.Part.{part, put, put-length, part-length, part-put, part-before, part-behind}
-use Rattle.words.specs.Slots.{slots, slot-here, slots-before, slots-behind, slots-put}
+use Rattle.words.specs.Slots.{slots, slot-here, slots-before, slots-behind, slots-put, slots-set}
 use Rattle.words.specs.Copy.{Apart}
-use Rattle.head.specs.Head.{HEAD, job-of, lost-of, status-of, held-of, target-of}
+use Rattle.head.specs.Head.{HEAD, LOST, STATUS, HELD, TARGET, job-of, lost-of, status-of, held-of, target-of, as-status}
+use Rattle.head.specs.Kept.{Says, head-kept, head-put}
+use Rattle.head.specs.Sets.{behind-set, set-lost, set-status, set-held, set-target}
 use Rattle.notelist.specs.Notes.{notes}
 use Rattle.packets.specs.Words.{packets}
 use Rattle.memory.specs.Places.{MEMORY}
@@ -51,18 +55,57 @@ module _ (xs : List ℕ) where
   unfolding view
   notes-at p h = ap notes (slot-here NOTES NOTELIST 7 xs p h)
 
+-- ---- one word of the head set
+module _ (xs : List ℕ) (size : length xs ≡ STORE) (w : ℕ) where
+  -- what the head then says
+  said : (i : ℕ) → i < HEAD → {j : Job} {l : Bool} {s : ℕ → Status} {h : ℕ → Bool} {t : ℕ → ℕ} → Says (set xs i w) j l s h t
+      → view (set xs i w) ≡ record { job = j; lost = l; status = s; target = t; live = view xs .live; held = h; copy = view xs .copy; notes = view xs .notes; wire = view xs .wire }
+  unfolding view
+  said i low says = rw (
+    says .job,
+    says .lost,
+    says .status,
+    says .held,
+    says .target,
+    slots-set LIVE MEMORY 13 xs i w (omega arith),
+    slots-set COPY MEMORY 13 xs i w (omega arith),
+    slots-set NOTES NOTELIST 7 xs i w (omega arith),
+    behind-set WIRE PACKETS xs i w low (omega arith),
+  )
+
+  pub lost-set : view (set xs LOST w) ≡ with-lost (view xs) (eqb w 1)
+  unfolding view
+  lost-set = said LOST (omega arith) (set-lost xs w (omega arith))
+
+  pub status-set : (p : ℕ) → p < 7 → view (set xs (STATUS + p) w) ≡ with-status (view xs) (upd p (as-status w) (view xs .status)) (view xs .target)
+  unfolding view
+  status-set p h = said (STATUS + p) (omega arith) (set-status xs w (omega arith) p h)
+
+  pub held-set : (p : ℕ) → p < 7 → view (set xs (HELD + p) w) ≡ with-copies (view xs) (upd p (eqb w 1) (view xs .held)) (view xs .copy) (view xs .notes)
+  unfolding view
+  held-set p h = said (HELD + p) (omega arith) (set-held xs w (omega arith) p h)
+
+  pub target-set : (c : ℕ) → c < 13 → view (set xs (TARGET + c) w) ≡ with-status (view xs) (view xs .status) (upd c w (view xs .target))
+  unfolding view
+  target-set c h = said (TARGET + c) (omega arith) (set-target xs w (omega arith) c h)
+
 module _ (xs : List ℕ) (size : length xs ≡ STORE) where
   -- ---- the head
   module _ (ys : List ℕ) (long : length ys ≡ HEAD) where
     pub head-length : length (put 0 HEAD xs ys) ≡ STORE
     head-length = put-length 0 HEAD xs ys (omega arith) long ∙ size
 
-    pub head-put : view (put 0 HEAD xs ys) ≡ with-head (view xs) ys
+    pub whole-head-put : view (put 0 HEAD xs ys) ≡ with-head (view xs) ys
     unfolding view
-    head-put =
+    whole-head-put =
         let fits : 0 + HEAD ≤ length xs = omega arith in
+        let says = head-put xs ys (omega arith) long in
         rw (
-          part-put 0 HEAD xs ys fits long,
+          says .job,
+          says .lost,
+          says .status,
+          says .held,
+          says .target,
           slots-behind LIVE MEMORY 13 xs 0 HEAD ys fits long (omega arith),
           slots-behind COPY MEMORY 13 xs 0 HEAD ys fits long (omega arith),
           slots-behind NOTES NOTELIST 7 xs 0 HEAD ys fits long (omega arith),
@@ -81,8 +124,13 @@ module _ (xs : List ℕ) (size : length xs ≡ STORE) where
     unfolding view
     live-put =
         let fits : live-from c + MEMORY ≤ length xs = omega arith in
+        let kept = head-kept (live-from c) MEMORY xs ys fits long (omega arith) in
         rw (
-          part-before (live-from c) MEMORY xs ys fits long 0 HEAD (omega arith),
+          kept .job,
+          kept .lost,
+          kept .status,
+          kept .held,
+          kept .target,
           slots-put LIVE MEMORY 13 xs c ys h (omega arith) long,
           slots-behind COPY MEMORY 13 xs (live-from c) MEMORY ys fits long (omega arith),
           slots-behind NOTES NOTELIST 7 xs (live-from c) MEMORY ys fits long (omega arith),
@@ -94,8 +142,13 @@ module _ (xs : List ℕ) (size : length xs ≡ STORE) where
     unfolding view
     copy-put =
         let fits : copy-from c + MEMORY ≤ length xs = omega arith in
+        let kept = head-kept (copy-from c) MEMORY xs ys fits long (omega arith) in
         rw (
-          part-before (copy-from c) MEMORY xs ys fits long 0 HEAD (omega arith),
+          kept .job,
+          kept .lost,
+          kept .status,
+          kept .held,
+          kept .target,
           slots-before LIVE MEMORY 13 xs (copy-from c) MEMORY ys fits long (omega arith),
           slots-put COPY MEMORY 13 xs c ys h (omega arith) long,
           slots-behind NOTES NOTELIST 7 xs (copy-from c) MEMORY ys fits long (omega arith),
@@ -123,8 +176,13 @@ module _ (xs : List ℕ) (size : length xs ≡ STORE) where
     unfolding view
     notes-put =
         let fits : notes-from p + NOTELIST ≤ length xs = omega arith in
+        let kept = head-kept (notes-from p) NOTELIST xs ys fits long (omega arith) in
         rw (
-          part-before (notes-from p) NOTELIST xs ys fits long 0 HEAD (omega arith),
+          kept .job,
+          kept .lost,
+          kept .status,
+          kept .held,
+          kept .target,
           slots-before LIVE MEMORY 13 xs (notes-from p) NOTELIST ys fits long (omega arith),
           slots-before COPY MEMORY 13 xs (notes-from p) NOTELIST ys fits long (omega arith),
           slots-put NOTES NOTELIST 7 xs p ys h (omega arith) long,
@@ -141,8 +199,13 @@ module _ (xs : List ℕ) (size : length xs ≡ STORE) where
     unfolding view
     wire-put =
         let fits : WIRE + PACKETS ≤ length xs = omega arith in
+        let kept = head-kept (WIRE) PACKETS xs ys fits long (omega arith) in
         rw (
-          part-before WIRE PACKETS xs ys fits long 0 HEAD (omega arith),
+          kept .job,
+          kept .lost,
+          kept .status,
+          kept .held,
+          kept .target,
           slots-before LIVE MEMORY 13 xs WIRE PACKETS ys fits long (omega arith),
           slots-before COPY MEMORY 13 xs WIRE PACKETS ys fits long (omega arith),
           slots-before NOTES NOTELIST 7 xs WIRE PACKETS ys fits long (omega arith),

@@ -11,6 +11,7 @@ ghost use Rattle.words.specs.Rows.{row, named, without};
 
 // An item's lowest fields are an SN and its peer, 16 values each to be told apart by the next place value, its owner's.
 pub const PEER: u64 = 65536;
+
 pub const OWNER: u64 = 16 * PEER;
 
 pub fn count(ws: &[u64]) -> usize
