@@ -1,9 +1,9 @@
 -- What a log holds fits a word: chares below 16, hops below 8, other numbers below 65536; and it has as many messages as there is room.
-use mathlib.Core.Path.{_≡_, refl, sym, ap, subst, _∙_}
-use mathlib.Core.Bool.{Bool, true, false, cond}
-use mathlib.Core.List.{List, [], _∷_, map}
+use mathlib.Core.Path.{_≡_, refl, subst}
+use mathlib.Core.Bool.{Bool}
+use mathlib.Core.List.{List}
 use mathlib.Core.Option.{Option, some, none}
-use Prim.Native.Nat.{ℕ, _-_, _%_, _<_, _≤_}
+use Prim.Native.Nat.{ℕ, _-_, _<_, _≤_}
 use native.Mathlib.Omega.{arith}
 use native.Mathlib.Nat.{mod-eq-of-lt}
 use lib.Dec.{eqb}
@@ -12,11 +12,10 @@ use Rattle.lists.specs.Tests.{either}
 use Rattle.lists.specs.Lists.{All, find, find-some, keep, keep-ext, mem-map}
 use Rattle.protocol.specs.declared.Message.{Message}
 use Rattle.protocol.specs.declared.Logged.{Logged}
-use Rattle.protocol.specs.declared.Lookup.{Lookup}
-use Rattle.protocol.specs.declared.Lookup.the-variants.{Missing, Ticketed, Unticketed}
+use Rattle.protocol.specs.declared.Lookup.the-variants.{Unticketed}
 use Rattle.protocol.specs.Packets.{for-receiver, looked-up, lookup}
 use Rattle.words.specs.Rows.{row, row-length}
-use Rattle.item.specs.Item.{item-of, peer-small, owner-small, hops-small}
+use Rattle.item.specs.Item.{item-of}
 use Rattle.logs.specs.Log.{logged-of, as-logged, fitted, entries, is-kept}
 use Rattle.logs.specs.Words.{entries-length, entry-at}
 

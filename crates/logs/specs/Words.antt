@@ -1,8 +1,8 @@
 -- What is done to the words of a log is done to its messages.
-use mathlib.Core.Path.{_≡_, refl, sym, ap, _∙_}
-use mathlib.Core.Bool.{Bool, true, false}
-use mathlib.Core.List.{List, [], _∷_, map}
-use Prim.Native.Nat.{ℕ, _+_, _-_, _%_, _<_, _≤_, min}
+use mathlib.Core.Path.{_≡_, sym, ap, _∙_}
+use mathlib.Core.Bool.{true, false}
+use mathlib.Core.List.{List, _∷_, map}
+use Prim.Native.Nat.{ℕ, _+_, _-_, _<_, _≤_}
 use native.Mathlib.Omega.{arith}
 use native.Mathlib.Nat.{mod-eq-of-lt}
 use native.Mathlib.Numerals.{add-one}
@@ -13,7 +13,6 @@ use Rattle.lists.specs.Lists.{remove1, allb}
 use Rattle.arrays.specs.Front.{push}
 use Rattle.arrays.specs.Place.{place}
 use Rattle.protocol.specs.declared.Logged.{Logged}
-use Rattle.protocol.specs.declared.Lookup.{Lookup}
 use Rattle.protocol.specs.declared.Lookup.the-variants.{Missing, Ticketed, Unticketed}
 use Rattle.protocol.specs.Packets.{for-receiver, looked-up, lookup, set-tn, ticketed}
 use Rattle.words.specs.Rows.{row, row-at, named, without}
@@ -25,9 +24,6 @@ pub logged-says : (w : ℕ) (x : Logged) → item-of w ≡ clipped (record { sn 
 unfolding logged-of as-logged fitted clipped
 logged-says w x a = rw a
 
-pub item-says : (w : ℕ) → as-logged (item-of w) ≡ logged-of w
-unfolding logged-of
-item-says w = refl
 
 module _ (ws : List ℕ) where
   pub entries-length : length (entries ws) ≡ length (row ws)
