@@ -24,7 +24,6 @@ pub logged-says : (w : ℕ) (x : Logged) → item-of w ≡ clipped (record { sn 
 unfolding logged-of as-logged fitted clipped
 logged-says w x a = rw a
 
-
 module _ (ws : List ℕ) where
   pub entries-length : length (entries ws) ≡ length (row ws)
   unfolding entries
