@@ -1,2 +1,5 @@
 -- What the contracts of notelist say.
 pub mod Notes
+pub mod Words
+pub mod Same
+pub mod Fits

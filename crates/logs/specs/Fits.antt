@@ -1,0 +1,78 @@
+-- What a log holds fits a word: chares below 16, hops below 8, other numbers below 65536; and it has as many messages as there is room.
+use mathlib.Core.Path.{_≡_, refl, subst}
+use mathlib.Core.Bool.{Bool}
+use mathlib.Core.List.{List}
+use mathlib.Core.Option.{Option, some, none}
+use Prim.Native.Nat.{ℕ, _-_, _<_, _≤_}
+use native.Mathlib.Omega.{arith}
+use native.Mathlib.Nat.{mod-eq-of-lt}
+use lib.Dec.{eqb}
+use lib.ListN.{length, getD}
+use Rattle.lists.specs.Tests.{either}
+use Rattle.lists.specs.Lists.{All, find, find-some, keep, keep-ext, mem-map}
+use Rattle.protocol.specs.declared.Message.{Message}
+use Rattle.protocol.specs.declared.Logged.{Logged}
+use Rattle.protocol.specs.declared.Lookup.the-variants.{Unticketed}
+use Rattle.protocol.specs.Packets.{for-receiver, looked-up, lookup}
+use Rattle.words.specs.Rows.{row, row-length}
+use Rattle.item.specs.Item.{item-of}
+use Rattle.logs.specs.Log.{logged-of, as-logged, fitted, entries, is-kept}
+use Rattle.logs.specs.Words.{entries-length, entry-at}
+
+pub entries-fit : (ws : List ℕ) → length (entries ws) ≤ length ws - 1
+entries-fit ws = omega (arith, entries-length ws, row-length ws)
+
+pub record Fits (m : Message) : Type 0 where
+  pub sender : m .sender < 16
+  pub receiver : m .receiver < 16
+  pub sn : m .sn < 65536
+  pub value : m .value < 65536
+  pub hops : m .hops < 8
+
+module _ (w : ℕ) where
+  pub word-fits : Fits (logged-of w .message)
+  unfolding logged-of as-logged item-of
+  word-fits = record { sender = omega arith; receiver = omega arith; sn = omega arith; value = omega arith; hops = omega arith }
+
+  pub tn-fits : logged-of w .tn < 65536
+  unfolding logged-of as-logged item-of
+  tn-fits = omega arith
+
+-- what fits, a word holds as it is
+pub fitted-same : (x : Logged) → Fits (x .message) → fitted x ≡ x
+unfolding fitted
+fitted-same x h = rw (mod-eq-of-lt (h .sender), mod-eq-of-lt (h .receiver), mod-eq-of-lt (h .hops))
+
+module _ (ws : List ℕ) where
+  -- what holds of every word holds of every message
+  pub every-message : (P : Logged → Type 0) → ((w : ℕ) → P (logged-of w)) → All P (entries ws)
+  unfolding entries
+  every-message P h x i = let m = mem-map logged-of (row ws) i in subst P (m .2) (h (m .0))
+
+  pub at-fits : (i : ℕ) → Fits (getD (entries ws) i (logged-of 0) .message)
+  at-fits i = rw (entry-at ws i) (word-fits (getD (row ws) i 0))
+
+  pub at-tn-fits : (i : ℕ) → getD (entries ws) i (logged-of 0) .tn < 65536
+  at-tn-fits i = rw (entry-at ws i) (tn-fits (getD (row ws) i 0))
+
+  pub found-fits : (q : Logged → Bool) {x : Logged} → find q (entries ws) ≡ some x → Fits (x .message)
+  found-fits q {x} e = every-message (λ y. Fits (y .message)) word-fits x (find-some q (entries ws) e .0)
+
+  -- only the limits of chares below 16 count
+  pub kept-same : (f g : ℕ → ℕ) → ((r : ℕ) → r < 16 → f r ≡ g r) → keep (is-kept f) (entries ws) ≡ keep (is-kept g) (entries ws)
+  unfolding is-kept
+  kept-same f g h = keep-ext (is-kept f) (is-kept g) (entries ws) (every-message _ (λ w. rw (h (logged-of w .message .receiver) (word-fits w .receiver))))
+
+-- what a lookup without a TN gives is the message found
+is-found : (o : Option Logged) (m : Message) → Unticketed m ≡ looked-up o → (x : Logged) × (o ≡ some x) × (m ≡ x .message)
+unfolding looked-up
+is-found none m e = absurd (let z : _≡_ {A = ℕ} 0 1 = cc in omega arith)
+is-found (some x) m e = either (eqb (x .tn) 0)
+    (λ q. (x, refl, cc (rw q at e)))
+    (λ q. absurd (let d = rw q at e in let z : _≡_ {A = ℕ} 0 1 = cc in omega arith))
+
+pub unticketed-fits : (ws : List ℕ) (r n : ℕ) (m : Message) → Unticketed m ≡ lookup (entries ws) r n → Fits m
+unfolding lookup
+unticketed-fits ws r n m e =
+    let f = is-found (find (for-receiver r n) (entries ws)) m e in
+    rw (f .2) (found-fits ws (for-receiver r n) (f .1))

@@ -1,0 +1,20 @@
+use native.Mathlib.Omega.{arith}
+use borrow.Author.Needs.{needs}
+use Rattle.notelist.specs.Words.{no-words, emptied}
+use Rattle.notelist.proofs.empty.Statement.{statement}
+use Rattle.notelist.proofs.empty.Tie as tie
+
+returns : tie.Need-returns
+returns c = no-words _ (omega arith)
+
+slice-write-ws : tie.Need-slice-write-ws
+slice-write-ws c = search needs
+
+same-length : tie.Need-same-length
+same-length c = search needs
+
+returns-2 : tie.Need-returns-2
+returns-2 c = emptied (c .before .args .ws .now) (omega arith)
+
+pub empty-spec : {M : Type 1} → statement M
+empty-spec = tie.close (tie.spec returns slice-write-ws same-length returns-2)
