@@ -254,7 +254,7 @@ pub fn job_in_range(line: &[u8]) -> bool
     chares_in_range(line)
 }
 
-fn buddy_of(line: &[u8], p: u8) -> u8
+pub fn buddy_of(line: &[u8], p: u8) -> u8
     ensures { λ r. ⌜ r ≡ job-of (decoded (now (line .entry))) .buddy p ⌝ }
 {
     let m = frames::byte(line, 1);
@@ -271,7 +271,7 @@ fn buddy_of(line: &[u8], p: u8) -> u8
     if p == 1 { m } else { p - 1 }
 }
 
-fn number_of(line: &[u8], i: u8, c: u8) -> u8
+pub fn number_of(line: &[u8], i: u8, c: u8) -> u8
     ensures { λ r. ⌜ r ≡ number-of (decoded (now (line .entry))) i c ⌝ }
 {
     if c < 1 {

@@ -5,7 +5,7 @@ use mathlib.Core.List.{List, [], _∷_, map}
 use mathlib.Core.Option.{some}
 use Prim.Native.Nat.{ℕ, _-_, _<_, _≤_}
 use native.Mathlib.Omega.{arith}
-use lib.ListN.{length, length-map}
+use lib.ListN.{length, getD, length-map, List·getD-map}
 use Rattle.lists.specs.Tests.{either}
 use Rattle.lists.specs.Lists.{find}
 use Rattle.protocol.specs.declared.Entry.{Entry}
@@ -16,6 +16,11 @@ use Rattle.tickets.specs.EntryLaws.{sender-small, hops-small, value-smal
 pub count-is : (ws : List ℕ) → length (row ws) ≡ length (entries ws)
 unfolding entries
 count-is ws = sym (length-map (row ws) entry-of)
+
+-- the entry at i
+pub entry-at : (ws : List ℕ) (i : ℕ) → getD (entries ws) i (entry-of 0) ≡ entry-of (getD (row ws) i 0)
+unfolding entries
+entry-at ws i = List·getD-map entry-of (row ws) i 0
 
 pub entries-fit : (ws : List ℕ) → length (entries ws) ≤ length ws - 1
 entries-fit ws = omega (arith, count-is ws, row-length ws)

@@ -2,7 +2,7 @@
 ghost use mathlib.Core.Path.{_≡_};
 ghost use mathlib.Core.List.{map};
 ghost use Prim.Native.Nat.{_-_, _%_};
-ghost use lib.ListN.{length};
+ghost use lib.ListN.{length, getD};
 ghost use Rattle.lists.specs.Lists.{anyb, keep, find as first, change1};
 ghost use Rattle.arrays.specs.Front.{push as pushed};
 ghost use Rattle.protocol.specs.Tickets.{for-message, entry, filled, note-entry, unreceived, has-tn, highest as highest-of, lowest-hole, next-tn};
@@ -59,6 +59,13 @@ pub fn count(ws: &[u64]) -> usize
     words::count(ws)
 }
 
+// The entry at i; past the last, what the word 0 means.
+pub fn at(ws: &[u64], i: usize) -> Entry
+    ensures { λ r. ⌜ r ≡ getD (entries (now (ws .entry))) i (entry-of 0) ⌝ }
+{
+    unpack(words::read(ws, i))
+}
+
 // The first entry for a sender and an SN.
 pub fn find(ws: &[u64], sender: u8, sn: u16) -> FoundEntry
     ensures { λ r. ⌜ found-entry r ≡ entry (entries (now (ws .entry))) sender sn ⌝ }
@@ -106,7 +113,7 @@ pub fn enter(ws: &mut [u64], sender: u8, sn: u16, tn: u16)
         value: 0,
         hops: 0,
     };
-    words::push(ws, pack(e));
+    push(ws, e);
 }
 
 // The same unless the table has the sender and SN already. Whether it then has room for all; if not, it stays.

@@ -1,0 +1,1 @@
+// Frame 13 in place.

@@ -1,0 +1,1 @@
+// Frame 14 in place.

@@ -1,0 +1,1 @@
+// Frame 11 in place.

@@ -1,0 +1,1 @@
+// Frame 01 in place.

@@ -1,0 +1,1 @@
+// Frame 15 in place.

@@ -1,0 +1,1 @@
+// Frames 10 and 12 in place.

@@ -1,0 +1,1 @@
+// The end of catching up, and frame 16, in place.
