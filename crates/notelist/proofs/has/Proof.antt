@@ -17,10 +17,10 @@ abbrev μ-loop : tie.MeasureT-loop
 μ-loop ws x name n i₀ i = n - i
 
 returns : tie.Need-returns Inv-loop μ-loop
-returns c = far-receiver _ _ (c .if1 .taken)
+returns c = far-receiver _ _ (omega (arith, c .if1 .taken))
 
 returns-2 : tie.Need-returns-2 Inv-loop μ-loop
-returns-2 c = far-sender _ _ (c .if2 .taken)
+returns-2 c = far-sender _ _ (omega (arith, c .if2 .taken))
 
 cast-name : tie.Need-cast-name Inv-loop μ-loop
 cast-name c = search needs
@@ -72,7 +72,7 @@ returns-3 c =
     let s = p .before .before .before .before .before in
     let r = s .before .before in
     let l = p .loop in
-    noted-there _ _ (l .i) (l .inv .1) (omega arith) (same-word _ _ (search needs) (r .if1 .left) (s .if2 .left) (w .if3 .taken) (sym (t .tn .ensures) ∙ c .if4 .taken))
+    noted-there _ _ (l .i) (l .inv .1) (omega arith) (same-word _ _ (search needs) (omega (arith, r .if1 .left)) (omega (arith, s .if2 .left)) (w .if3 .taken) (sym (t .tn .ensures) ∙ c .if4 .taken))
 
 loop-less : tie.Need-loop-less Inv-loop μ-loop
 loop-less c = search needs
