@@ -1,16 +1,15 @@
 -- What a wire can hold: its room, and the range of every field of a packet on it.
 use mathlib.Core.Bool.{Bool}
 use mathlib.Core.List.{List, [], _∷_, map}
-use mathlib.Core.Option.{some, none}
-use mathlib.Core.Path.{_≡_, refl, sym, ap, _∙_}
-use Prim.Native.Nat.{ℕ, _-_, _%_, _<_, _≤_}
+use mathlib.Core.Option.{some}
+use mathlib.Core.Path.{_≡_, sym}
+use Prim.Native.Nat.{ℕ, _-_, _<_, _≤_}
 use native.Mathlib.Omega.{arith}
 use native.Mathlib.Nat.{mod-eq-of-lt}
 use lib.Dec.{eqb}
 use lib.ListN.{length, length-map}
 use Rattle.lists.specs.Tests.{either}
 use Rattle.lists.specs.Lists.{find}
-use Rattle.protocol.specs.declared.Content.{Content}
 use Rattle.protocol.specs.declared.Packet.{Packet}
 use Rattle.words.specs.Rows.{row, row-length}
 use Rattle.item.specs.Item.{item-of, peer-small, owner-small, hops-small}
