@@ -84,10 +84,6 @@ module _ (m : Memory) (a n v h : ℕ) {o : Option Entry} where
     unfolding data-effect
     data-fills q = rw (p, q)
 
--- ---- a packet, by its content
-pub came : (m : Memory) (p : Packet) {x : Result Effect} {c d : Content} → d ≡ c → x ≡ asks 7 (effect-questions m p c) (effect m p c) → x ≡ asks 7 (effect-questions m p d) (effect m p d)
-came m p e h = h ∙ sym (ap (λ c. asks 7 (effect-questions m p c) (effect m p c)) e)
-
 -- ---- by the numbers read from a memory
 module _ (m : Memory) where
   pub worked-by : (a n k : ℕ) (b : Bits) → k ≡ m .mark a → b ≡ m .window a → worked k b n ≡ is-worked m a n

@@ -3,7 +3,7 @@ use mathlib.Core.Path.{_≡_, refl, sym}
 use mathlib.Core.Bool.{Bool, true, false}
 use mathlib.Core.List.{List}
 use mathlib.Core.Option.{Option, some, none}
-use Prim.Native.Nat.{ℕ, _<_}
+use Prim.Native.Nat.{ℕ, _%_, _<_}
 use native.Mathlib.Nat.{mod-eq-of-lt}
 use Rattle.lists.specs.Tests.{either}
 use Rattle.protocol.specs.declared.Content.{Content}
@@ -66,3 +66,8 @@ pub answer-fits : (p : Packet) (c : Content) → Fits p → some (fit-content c)
 answer-fits p c h f =
     let d : fit-content c ≡ c = cc in
     fits-same (record { sender = p .sender; receiver = p .receiver; sn = p .sn; content = c }) (record { sender = h .sender; receiver = h .receiver; sn = h .sn; content = d })
+
+-- the hops of a DATA
+pub hops-fit : (p : Packet) {v h : ℕ} → Fits p → p .content ≡ DATA v h → h % 8 ≡ h
+unfolding fit-content
+hops-fit p {v} {h} f e = let d : DATA v (h % 8) ≡ DATA v h = rw e at (f .content) in cc

@@ -2,8 +2,9 @@
 use mathlib.Core.Bool.{Bool, not, _&&_}
 use mathlib.Core.List.{List, [], _∷_}
 use mathlib.Core.Option.{Option, some, none}
-use Prim.Native.Nat.{ℕ}
+use Prim.Native.Nat.{ℕ, _<_}
 use lib.Dec.{leb}
+use lib.ListN.{length}
 use Rattle.lists.specs.Questions.{asks}
 use Rattle.protocol.specs.declared.Answer.the-variants.{Accepted}
 use Rattle.protocol.specs.declared.Packet.{Packet}
@@ -14,6 +15,7 @@ use Rattle.protocol.specs.Packets.{destination, deliver, note-of}
 use Rattle.protocol.specs.Step.{Outcome, judged}
 use Rattle.words.specs.Rows.{without}
 use Rattle.head.specs.Head.{runs}
+use Rattle.packets.specs.Fits.{Fits}
 use Rattle.deliver.specs.More.{then}
 use Rattle.deliver.specs.Effect.{effect, effect-questions}
 use Rattle.deliver.specs.NoteEffect.{note-effect, note-questions}
@@ -39,11 +41,16 @@ done s = record { state = s; answer = Accepted }
 abbrev pub taken-off : State → ℕ → State
 taken-off s at = with-wire s (without at (s .wire))
 
--- the packet p, at a place on the wire, at the memory of chare c
+-- a packet, such as a word can hold, is at a place on the wire
+pub record Waits (s : State) (at : ℕ) (p : Packet) : Type 0 where
+  pub fits : Fits p
+  pub here : at < length (s .wire)
+
+-- the packet p, at a place on the wire, comes to the memory of chare c
 unfoldable pub chare-outcome : State → ℕ → ℕ → Packet → Outcome
 chare-outcome s c at p = judged s (then (λ e. done (put-effect (taken-off s at) c p e)) (asks 7 (effect-questions (s .live c) p (p .content)) (effect (s .live c) p (p .content))))
 
--- a NOTE of the TN t at the note list for the receiver's machine
+-- as a NOTE of the TN t, it comes to the note list for the receiver's machine
 unfoldable pub note-outcome : State → ℕ → Packet → ℕ → Outcome
 note-outcome s at p t =
     let h = s .job .home (p .receiver) in

@@ -44,7 +44,7 @@ use Rattle.deliver.specs.NoteEffect.{note-effect, note-questions}
 use Rattle.deliver.specs.Arrival.{with-reply, put-effect, put-notes}
 use Rattle.deliver.specs.View.{reply-of, effect-of, answered, Asked, Arriving}
 use Rattle.deliver.specs.Fits.{fit-reply, reply-fits, answer-fits}
-use Rattle.deliver.specs.Frame.{in-range, first-questions, done, taken-off, chare-outcome, note-outcome}
+use Rattle.deliver.specs.Frame.{done, taken-off, Waits, chare-outcome, note-outcome}
 use Rattle.deliver.specs.Judged.{the-outcome, firsts, refused-first, refused-missing, judged-chare, judged-note}
 use Rattle.deliver.specs.Named.{place-named, place-small, found-inside, one-less}
 
@@ -65,9 +65,9 @@ wire-answered s l p Nothing b f h = refl
 wire-answered s l p (Send c) b f h = unfold reply sent in ap (with-wire s) (push-fits wire-room l _ h ∙ ap (λ q. l ++ (q ∷ [])) (answer-fits p c b f))
 
 -- ---- the packet p is at a place on the wire
-module _ (xs : List ℕ) (size : length xs ≡ STORE) (at : ℕ) (p : Packet) (fits : Fits p) (here : at < length (view xs .wire)) where
+module _ (xs : List ℕ) (size : length xs ≡ STORE) (at : ℕ) (p : Packet) (waits : Waits (view xs) at p) where
   room : length (without at (view xs .wire)) < wire-room
-  room = let h : length (view xs .wire) ≤ wire-room = rw (wire-at xs) (omega (arith, packets-fit (part WIRE PACKETS xs), part-length WIRE PACKETS xs (omega arith))) in omega (arith, one-less (view xs .wire) at here)
+  room = let h : length (view xs .wire) ≤ wire-room = rw (wire-at xs) (omega (arith, packets-fit (part WIRE PACKETS xs), part-length WIRE PACKETS xs (omega arith))) in omega (arith, one-less (view xs .wire) at (waits .here))
 
   -- the wire zs without the packet, and with an answer; ws is the store before the wire is put
   answer-put : (ws zs : List ℕ) (t : State) (y : Reply) → length ws ≡ STORE → view ws ≡ t → part WIRE PACKETS ws ≡ part WIRE PACKETS xs → length zs ≡ PACKETS → fit-reply (reply-of y) ≡ reply-of y
@@ -75,7 +75,7 @@ module _ (xs : List ℕ) (size : length xs ≡ STORE) (at : ℕ) (p : Packet) (f
       → view (put WIRE PACKETS ws zs) ≡ with-reply (with-wire t (without at (view xs .wire))) p (reply-of y)
   answer-put ws zs t y wide seen kept long fit e =
       wire-put ws wide zs long
-      ∙ rw (seen, e, kept, ← wire-at xs) (wire-answered t (without at (view xs .wire)) p y fits fit room)
+      ∙ rw (seen, e, kept, ← wire-at xs) (wire-answered t (without at (view xs .wire)) p y (waits .fits) fit room)
 
   -- the memory of chare c becomes ys
   module _ (c : ℕ) (small : c < 13) (ys : List ℕ) (long : length ys ≡ MEMORY) (r : Arrived)
@@ -104,15 +104,19 @@ module _ (xs : List ℕ) (size : length xs ≡ STORE) (at : ℕ) (p : Packet) (f
       unfolding judged then put-effect effect-of
       chare-done zs wide e = accepted xs (put WIRE PACKETS (put (live-from c) MEMORY xs ys) zs) (chare-outcome (view xs) c at p)
           (ap done (answer-put (put (live-from c) MEMORY xs ys) zs (with-memory (view xs) c (memory-view ys)) (r .reply)
-            (live-length xs size c small ys long) (live-put xs size c small ys long) (wire-kept xs size c small ys long) wide reply-sent e)
+          (live-length xs size c small ys long) (live-put xs size c small ys long) (wire-kept xs size c small ys long) wide reply-sent e)
           ∙ (rw (by-none (r .refusal) (effect-of ys (r .reply)) clear) at by-chare))
 
   -- the notes kept for the receiver's machine, h, become ys
-  module _ (t h : ℕ) (home : h ≡ view xs .job .home (p .receiver)) (small : h < 7) (ys : List ℕ) (long : length ys ≡ NOTELIST) (n : ℕ)
+  module _ (t h : ℕ) (home : h ≡ job-of xs .home (p .receiver)) (small : h < 7) (ys : List ℕ) (long : length ys ≡ NOTELIST) (n : ℕ)
       (came : Asked (note-questions (notes (part (notes-from h) NOTELIST xs)) (note-of p t)) (note-effect (notes (part (notes-from h) NOTELIST xs)) (note-of p t)) (notes ys) (part (notes-from h) NOTELIST xs) ys n) where
+    home-is : h ≡ view xs .job .home (p .receiver)
+    unfolding view
+    home-is = home
+
     by-notes : judged (view xs) (then (λ l. done (put-notes (taken-off (view xs) at) h p l)) (by-number n (notes ys))) ≡ note-outcome (view xs) at p t
     unfolding note-outcome
-    by-notes = rw (came .gives, ← home, notes-at xs h small)
+    by-notes = rw (came .gives, ← home-is, notes-at xs h small)
 
     pub note-refused : (n ≡ 0 → ⊥) → Framed xs (put (notes-from h) NOTELIST xs ys) (Refused n) (note-outcome (view xs) at p t)
     unfolding judged then
@@ -125,6 +129,6 @@ module _ (xs : List ℕ) (size : length xs ≡ STORE) (at : ℕ) (p : Packet) (f
     unfolding judged then put-notes with-reply reply-of fit-reply fit-content
     note-done clear zs wide e = accepted xs (put WIRE PACKETS (put (notes-from h) NOTELIST xs ys) zs) (note-outcome (view xs) at p t)
         (ap done (answer-put (put (notes-from h) NOTELIST xs ys) zs (with-notes (view xs) (upd h (notes ys) (view xs .notes))) (Send ACK)
-          (notes-length xs size h small ys long) (notes-put xs size h small ys long)
-          (part-behind (notes-from h) NOTELIST xs ys (omega arith) long WIRE PACKETS (omega arith)) wide refl e)
+        (notes-length xs size h small ys long) (notes-put xs size h small ys long)
+        (part-behind (notes-from h) NOTELIST xs ys (omega arith) long WIRE PACKETS (omega arith)) wide refl e)
         ∙ (rw (by-none n (notes ys) clear) at by-notes))

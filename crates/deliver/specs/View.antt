@@ -9,14 +9,14 @@ use Rattle.lists.specs.Questions.{ok, refuse, asks}
 use Rattle.arrays.specs.Front.{push}
 use Rattle.protocol.specs.declared.Content.{Content}
 use Rattle.protocol.specs.declared.Packet.{Packet}
-use Rattle.protocol.specs.Parts.{wire-room}
+use Rattle.protocol.specs.Parts.{Memory, wire-room}
 use Rattle.packets.specs.Words.{fitted}
 use Rattle.memory.specs.View.{memory-view}
 use Rattle.deliver.specs.declared.arrive.Reply.{Reply}
 use Rattle.deliver.specs.declared.arrive.Reply.the-variants.{Nothing, Send}
 use Rattle.deliver.specs.declared.arrive.Arrived.{Arrived}
 use Rattle.deliver.specs.More.{by-number, by-none, by-refused}
-use Rattle.deliver.specs.Effect.{Effect}
+use Rattle.deliver.specs.Effect.{Effect, effect, effect-questions, no-questions}
 
 unfoldable pub reply-of : Reply → Option Content
 reply-of Nothing = none
@@ -55,3 +55,13 @@ module _ {questions : List Bool} {e : Effect} (before after : List ℕ) (r : Arr
 
   pub refusing : (n : ℕ) → 0 < n → (r .refusal ≡ n) × (r .reply ≡ Nothing) → refuse n ≡ asks 7 questions e → after ≡ before → Arriving questions e before after r
   refusing n h p q s = record { asked = stops (r .refusal) (λ z. let w = p .0 in omega arith) (rw (p .0) q) s; silent = λ _. p .1 }
+
+-- ---- a packet, by its content c
+module _ (m : Memory) (p : Packet) {c d : Content} (is-c : d ≡ c) (before after : List ℕ) (r : Arrived) where
+  pub came : Arriving (effect-questions m p c) (effect m p c) before after r → Arriving (effect-questions m p d) (effect m p d) before after r
+  came h = rw is-c h
+
+  -- no question is put
+  pub did : (y : Reply) → effect-questions m p c ≡ no-questions → (r .refusal ≡ 0) × (r .reply ≡ y) → effect-of after y ≡ effect m p c → Arriving (effect-questions m p d) (effect m p d) before after r
+  unfolding no-questions asks
+  did y q h e = came (replying before after r y h (rw (q, e)))

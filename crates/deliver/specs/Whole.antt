@@ -20,14 +20,14 @@ use Rattle.words.specs.Rows.{without}
 use Rattle.head.specs.Head.{job-of, lost-of, status-of}
 use Rattle.head.specs.HeadLaws.{chares-top}
 use Rattle.packets.specs.Words.{packets}
-use Rattle.packets.specs.Fits.{Fits, sought-fits}
+use Rattle.packets.specs.Fits.{sought-fits}
 use Rattle.packets.specs.View.{found, sought, sought-packet, sought-left}
 use Rattle.packets.specs.declared.Found.{Found}
 use Rattle.packets.specs.declared.Found.the-variants.{Nothing as Unfound, At}
 use Rattle.store.specs.Places.{WIRE, PACKETS}
 use Rattle.store.specs.View.{view, Framed}
 use Rattle.store.specs.ViewLaws.{wire-at}
-use Rattle.deliver.specs.Frame.{first-questions, chare-outcome, note-outcome}
+use Rattle.deliver.specs.Frame.{first-questions, Waits, chare-outcome, note-outcome}
 use Rattle.deliver.specs.Judged.{the-outcome, firsts, refused-first, refused-missing, judged-chare, judged-note}
 use Rattle.deliver.specs.Named.{place-named, place-small, found-inside}
 use Rattle.deliver.specs.InPlace.{refused}
@@ -59,9 +59,6 @@ module _ (xs : List ℕ) (k a r n : ℕ) (no : ℕ) (first : no ≡ first-no 2 (
       frame-missing e = refused xs xs (the-outcome (view xs) k a r n) 6 refl (refused-missing (view xs) k a r n clear-seen (ap (find (is-named k a r n)) (wire-at xs) ∙ sym (sought-packet _ _ finds) ∙ ap found e))
 
       module _ {at : ℕ} {p : Packet} (got : f ≡ At at p) where
-        pub packet-fits : Fits p
-        packet-fits = sought-fits (part WIRE PACKETS xs) (is-named k a r n) (sym got ∙ finds)
-
         on-wire-it : on-wire (view xs) k a r n ≡ some p
         unfolding on-wire found
         on-wire-it = ap (find (is-named k a r n)) (wire-at xs) ∙ sym (sought-packet _ _ finds) ∙ ap found got
@@ -69,9 +66,9 @@ module _ (xs : List ℕ) (k a r n : ℕ) (no : ℕ) (first : no ≡ first-no 2 (
         left : remove1 (is-named k a r n) (view xs .wire) ≡ without at (view xs .wire)
         left = rw (wire-at xs) (sought-left _ _ (sym got ∙ finds))
 
-        pub packet-here : at < length (view xs .wire)
+        pub waiting : Waits (view xs) at p
         unfolding on-wire
-        packet-here = found-inside (is-named k a r n) (view xs .wire) at on-wire-it left
+        waiting = record { fits = sought-fits (part WIRE PACKETS xs) (is-named k a r n) (sym got ∙ finds); here = found-inside (is-named k a r n) (view xs .wire) at on-wire-it left }
 
         named : is-named k a r n p ≡ true
         unfolding on-wire

@@ -16,7 +16,7 @@ ghost use Rattle.store.specs.Places.{NOTELIST, PACKETS, STORE};
 ghost use Rattle.store.specs.View.{view, tried, Framed};
 ghost use Rattle.deliver.specs.NoteEffect.{note-effect, note-questions};
 ghost use Rattle.deliver.specs.View.{answered, Asked};
-ghost use Rattle.deliver.specs.Frame.{in-range, first-questions, delivered, chare-outcome, note-outcome};
+ghost use Rattle.deliver.specs.Frame.{in-range, first-questions, delivered, Waits, chare-outcome, note-outcome};
 use arrive::Reply;
 use memory::MEMORY;
 use packets::Found;
@@ -109,8 +109,7 @@ fn answer(ws: &mut [u64], at: usize, p: Packet, r: Reply)
 
 fn deliver_note(s: &mut [u64], at: usize, p: Packet, tn: u16) -> Answer
     requires { ⌜ length (now s) ≡ STORE ⌝ }
-    requires { ⌜ Fits p ⌝ }
-    requires { ⌜ at < length (view (now s) .wire) ⌝ }
+    requires { ⌜ Waits (view (now s)) at p ⌝ }
     ensures { λ r. ⌜ Framed (now (s .entry)) (now (s .exit)) r (note-outcome (view (now (s .entry))) at p tn) ⌝ }
 {
     let h = head::home(s, p.receiver) as usize;
@@ -128,8 +127,7 @@ fn deliver_note(s: &mut [u64], at: usize, p: Packet, tn: u16) -> Answer
 fn deliver_to(s: &mut [u64], c: u8, at: usize, p: Packet) -> Answer
     requires { ⌜ length (now s) ≡ STORE ⌝ }
     requires { ⌜ c < 13 ⌝ }
-    requires { ⌜ Fits p ⌝ }
-    requires { ⌜ at < length (view (now s) .wire) ⌝ }
+    requires { ⌜ Waits (view (now s)) at p ⌝ }
     ensures { λ r. ⌜ Framed (now (s .entry)) (now (s .exit)) r (chare-outcome (view (now (s .entry))) c at p) ⌝ }
 {
     let a = LIVE + (c as usize) * MEMORY;

@@ -1,84 +1,109 @@
+-- `deliver`: the first questions, the packet, and where it goes; each law of `Whole` is one way out.
+use mathlib.Core.Path.{_≡_, _∙_}
+use mathlib.Core.Bool.{cond}
+use mathlib.Core.Logic.{⊎-elim}
+use native.Mathlib.Omega.{arith}
 use borrow.Author.Needs.{needs}
+use borrow.Author.Tests.{eq-eqb, ne-eqb}
+use lib.Dec.{eqb}
+use Rattle.deliver.specs.Whole.{frame-refused, frame-missing, waiting, place-fits, to-chare, to-notes}
+use Rattle.deliver.proofs.Tags.{no-note}
 use Rattle.deliver.proofs.deliver.Statement.{statement}
 use Rattle.deliver.proofs.deliver.Tie as tie
-use Rattle.deliver.proofs.deliver.Reads as reads
-use Rattle.deliver.proofs.deliver.Lts as lts
-use Rattle.deliver.proofs.deliver_note.Reads as deliver-note-reads
-use Rattle.deliver.proofs.deliver_to.Reads as deliver-to-reads
-use Rattle.deliver.proofs.judge.Reads as judge-reads
-use Rattle.packets.proofs.find.Reads as find-reads
 
--- src/lib.rt:151:9
+-- ---- the places on the way, from the end to the beginning
+abbrev find-of : tie.After-known-told → tie.After-find
+find-of c = c .before .before .before
+
+abbrev passed-of : tie.After-find → tie.Else1
+passed-of c = c .before .before .before
+
+abbrev start-of : tie.After-find → tie.Start
+start-of c = passed-of c .before .before .before .before
+
+abbrev told-of : tie.Joined2 → tie.After-known-told
+told-of c = c .before .before
+
+-- the chare by the kind
+by-kind : (c : tie.Joined2) → c .if2 .to ≡ cond (eqb (start-of (find-of (told-of c)) .args .kind) 2) (start-of (find-of (told-of c)) .args .sender) (start-of (find-of (told-of c)) .args .receiver)
+by-kind c = ⊎-elim (λ w. w .1 ∙ rw (eq-eqb _ 2 (w .0 .taken))) (λ w. w .1 ∙ rw (ne-eqb _ 2 (w .0 .left))) (c .if2 .came)
+
 judge-requires : tie.Need-judge-requires
 judge-requires c κs = search needs
 
--- src/lib.rt:153:9
 same-length : tie.Need-same-length
 same-length c = search needs
 
--- src/lib.rt:153:9
 returns : tie.Need-returns
-returns c = search needs
+returns c = frame-refused _ _ _ _ _ _ (c .before .judge .ensures) (c .if1 .taken)
 
--- src/lib.rt:155:27
 sub-find : tie.Need-sub-find
 sub-find c = search needs
 
--- src/lib.rt:155:27
 part-find-start : tie.Need-part-find-start
 part-find-start c = search needs
 
--- src/lib.rt:155:27
 part-find-end : tie.Need-part-find-end
 part-find-end c = search needs
 
--- src/lib.rt:155:9
 find-requires : tie.Need-find-requires
 find-requires c κs = search needs
 
--- src/lib.rt:156:21
 enum-known-f : tie.Need-enum-known-f
 enum-known-f c = search needs
 
--- src/lib.rt:157:9
 enum-told : tie.Need-enum-told
 enum-told c = search needs
 
--- src/lib.rt:157:9
 same-length-2 : tie.Need-same-length-2
 same-length-2 c = search needs
 
--- src/lib.rt:157:9
 returns-2 : tie.Need-returns-2
-returns-2 c = search needs
+returns-2 c =
+    let f = c .before .before in
+    let e = passed-of f in
+    frame-missing _ _ _ _ _ _ (e .before .judge .ensures) (e .if1 .left) _ (f .find .ensures) (c .enum-told .given .1)
 
--- src/lib.rt:160:26
 enum-known-c : tie.Need-enum-known-c
 enum-known-c c = search needs
 
--- src/lib.rt:161:9
 deliver-note-requires : tie.Need-deliver-note-requires
-deliver-note-requires c κs = search needs
+deliver-note-requires c κs =
+    let k = c .before .before .before .before in
+    let f = find-of k in
+    let e = passed-of f in
+    (start-of f .pre, waiting _ _ _ _ _ _ (e .before .judge .ensures) (e .if1 .left) _ (f .find .ensures) (k .before .f .given .1))
 
--- src/lib.rt:161:9
 same-length-3 : tie.Need-same-length-3
 same-length-3 c = search needs
 
--- src/lib.rt:161:9
 returns-3 : tie.Need-returns-3
-returns-3 c = search needs
+returns-3 c =
+    let d = c .before .before in
+    let x = d .before .before .before in
+    let k = x .before .before in
+    let f = find-of k in
+    let e = passed-of f in
+    to-notes _ _ _ _ _ _ (e .before .judge .ensures) (e .if1 .left) _ (f .find .ensures) (k .before .f .given .1) _ _ (x .c .given .1) (d .deliver-note .ensures)
 
--- src/lib.rt:164:5
 deliver-to-requires : tie.Need-deliver-to-requires
-deliver-to-requires c κs = search needs
+deliver-to-requires c κs =
+    let k = told-of (c .before) in
+    let f = find-of k in
+    let e = passed-of f in
+    (start-of f .pre, (rw (by-kind (c .before)) (place-fits _ _ _ _ _ _ (e .before .judge .ensures) (e .if1 .left)), waiting _ _ _ _ _ _ (e .before .judge .ensures) (e .if1 .left) _ (f .find .ensures) (k .before .f .given .1)))
 
--- src/lib.rt:147:1
 same-length-4 : tie.Need-same-length-4
 same-length-4 c = search needs
 
--- src/lib.rt:147:1
 returns-4 : tie.Need-returns-4
-returns-4 c = search needs
+returns-4 c =
+    let d = c .before .before in
+    let j = d .before .before in
+    let k = told-of j in
+    let f = find-of k in
+    let e = passed-of f in
+    to-chare _ _ _ _ _ _ (e .before .judge .ensures) (e .if1 .left) _ (f .find .ensures) (k .before .f .given .1) _ _ (no-note _ (j .before .match2 .keys2)) _ (by-kind j) (d .deliver-to .ensures)
 
 pub deliver-spec : {M : Type 1} → statement M
 deliver-spec =

@@ -1,83 +1,93 @@
+-- `deliver_note`: the list for the receiver's machine, then the wire.
+use mathlib.Core.Path.{_≡_}
+use Prim.Native.Nat.{ℕ, _+_, _*_, _-_}
+use native.Mathlib.Omega.{arith}
 use borrow.Author.Needs.{needs}
+use Rattle.store.specs.Places.{NOTELIST, notes-from}
+use Rattle.deliver.specs.InPlace.{note-refused, note-done}
 use Rattle.deliver.proofs.deliver_note.Statement.{statement}
 use Rattle.deliver.proofs.deliver_note.Tie as tie
-use Rattle.deliver.proofs.deliver_note.Reads as reads
-use Rattle.deliver.proofs.deliver_note.Lts as lts
-use Rattle.deliver.proofs.answer.Reads as answer-reads
-use Rattle.deliver.proofs.note.Reads as note-reads
-use Rattle.head.proofs.home.Reads as home-reads
 
--- src/lib.rt:116:13
+-- ---- the places on the way, from the end to the beginning
+abbrev home-of : tie.After-note → tie.After-home
+home-of c = c .before .before
+
+abbrev start-of : tie.After-note → tie.Start
+start-of c = home-of c .before .before .before
+
+-- a list as long as the difference of its ends
+list-length : (h : ℕ) → (notes-from h + NOTELIST) - notes-from h ≡ NOTELIST
+list-length h = omega arith
+
 home-requires : tie.Need-home-requires
 home-requires c κs = search needs
 
--- src/lib.rt:116:13
 cast-h : tie.Need-cast-h
 cast-h c = search needs
 
--- src/lib.rt:117:21
 mul-a : tie.Need-mul-a
 mul-a c = search needs
 
--- src/lib.rt:117:13
 add-a : tie.Need-add-a
 add-a c = search needs
 
--- src/lib.rt:118:13
 add-e : tie.Need-add-e
 add-e c = search needs
 
--- src/lib.rt:119:19
 mul-note : tie.Need-mul-note
 mul-note c = search needs
 
--- src/lib.rt:119:19
 sub-note : tie.Need-sub-note
 sub-note c = search needs
 
--- src/lib.rt:119:19
 part-note-start : tie.Need-part-note-start
 part-note-start c = search needs
 
--- src/lib.rt:119:19
 part-note-end : tie.Need-part-note-end
 part-note-end c = search needs
 
--- src/lib.rt:119:9
 note-requires : tie.Need-note-requires
 note-requires c κs = search needs
 
--- src/lib.rt:121:9
 same-length : tie.Need-same-length
 same-length c = search needs
 
--- src/lib.rt:121:9
 returns : tie.Need-returns
-returns c = search needs
+returns c =
+    let g = c .before .before .before in
+    let h = home-of g in
+    let st = start-of g in
+    let a = st .args in
+    let e = list-length (h .home .result) in
+    rw e (note-refused (a .s .now) (st .pre .0) (a .at) (a .p) (st .pre .1) (a .tn) (h .home .result) (h .home .ensures .0) (omega (arith, h .home .ensures .1))
+    (g .note .last .0) (omega arith) _ (rw e at (g .note .ensures)) (c .if1 .taken))
 
--- src/lib.rt:123:12
 sub-answer : tie.Need-sub-answer
 sub-answer c = search needs
 
--- src/lib.rt:123:12
 part-answer-start : tie.Need-part-answer-start
 part-answer-start c = search needs
 
--- src/lib.rt:123:12
 part-answer-end : tie.Need-part-answer-end
 part-answer-end c = search needs
 
--- src/lib.rt:123:5
 answer-requires : tie.Need-answer-requires
 answer-requires c κs = search needs
 
--- src/lib.rt:110:1
 same-length-2 : tie.Need-same-length-2
 same-length-2 c = search needs
 
--- src/lib.rt:110:1
 returns-2 : tie.Need-returns-2
-returns-2 c = search needs
+returns-2 c =
+    let w = c .before .before in
+    let i = w .before .before in
+    let g = i .before .before .before in
+    let h = home-of g in
+    let st = start-of g in
+    let a = st .args in
+    let e = list-length (h .home .result) in
+    rw e (note-done (a .s .now) (st .pre .0) (a .at) (a .p) (st .pre .1) (a .tn) (h .home .result) (h .home .ensures .0) (omega (arith, h .home .ensures .1))
+    (g .note .last .0) (omega arith) _ (rw e at (g .note .ensures)) (i .if1 .left) (w .answer .last .0) (omega arith) (rw e at (w .answer .ensures)))
 
 pub deliver-note-spec : {M : Type 1} → statement M
 deliver-note-spec =

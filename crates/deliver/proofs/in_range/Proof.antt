@@ -1,42 +1,54 @@
+-- `in_range` puts its tests one after the other.
+use mathlib.Core.Path.{sym, _∙_}
+use borrow.Author.Tests.{le-leb, lt-leb, not-true, not-false}
 use borrow.Author.Needs.{needs}
+use Rattle.protocol.specs.Frames.{between}
+use Rattle.deliver.specs.Frame.{in-range}
 use Rattle.deliver.proofs.in_range.Statement.{statement}
 use Rattle.deliver.proofs.in_range.Tie as tie
-use Rattle.deliver.proofs.in_range.Reads as reads
-use Rattle.deliver.proofs.in_range.Lts as lts
-use Rattle.head.proofs.is_chare.Reads as is-chare-reads
-use Rattle.head.proofs.is_sender.Reads as is-sender-reads
 
--- src/lib.rt:38:9
 returns : tie.Need-returns
-returns c = search needs
+unfolding in-range between
+returns c = rw (lt-leb 1 _ (c .if1 .taken))
 
--- src/lib.rt:41:9
 returns-2 : tie.Need-returns-2
-returns-2 c = search needs
+unfolding in-range between
+returns-2 c = rw (le-leb 1 _ (c .before .if1 .left), lt-leb _ 5 (c .if2 .taken))
 
--- src/lib.rt:43:9
 is-sender-requires : tie.Need-is-sender-requires
 is-sender-requires c κs = search needs
 
--- src/lib.rt:44:9
 returns-3 : tie.Need-returns-3
-returns-3 c = search needs
+unfolding in-range between
+returns-3 c =
+    let d = c .before .before in
+    rw (le-leb 1 _ (d .before .if1 .left), le-leb _ 5 (d .if2 .left), sym (c .before .is-sender .ensures) ∙ not-true _ (c .if3 .taken))
 
--- src/lib.rt:46:9
 is-chare-requires : tie.Need-is-chare-requires
 is-chare-requires c κs = search needs
 
--- src/lib.rt:47:9
 returns-4 : tie.Need-returns-4
-returns-4 c = search needs
+unfolding in-range between
+returns-4 c =
+    let e = c .before .before in
+    let d = e .before .before in
+    rw (le-leb 1 _ (d .before .if1 .left), le-leb _ 5 (d .if2 .left), sym (e .before .is-sender .ensures) ∙ not-false _ (e .if3 .left), sym (c .before .is-chare .ensures) ∙ not-true _ (c .if4 .taken))
 
--- src/lib.rt:50:9
 returns-5 : tie.Need-returns-5
-returns-5 c = search needs
+unfolding in-range between
+returns-5 c =
+    let f = c .before in
+    let e = f .before .before in
+    let d = e .before .before in
+    rw (le-leb 1 _ (d .before .if1 .left), le-leb _ 5 (d .if2 .left), sym (e .before .is-sender .ensures) ∙ not-false _ (e .if3 .left), sym (f .before .is-chare .ensures) ∙ not-false _ (f .if4 .left), lt-leb 1 _ (c .if5 .taken))
 
--- src/lib.rt:33:1
 returns-6 : tie.Need-returns-6
-returns-6 c = search needs
+unfolding in-range between
+returns-6 c =
+    let f = c .before in
+    let e = f .before .before in
+    let d = e .before .before in
+    rw (le-leb 1 _ (d .before .if1 .left), le-leb _ 5 (d .if2 .left), sym (e .before .is-sender .ensures) ∙ not-false _ (e .if3 .left), sym (f .before .is-chare .ensures) ∙ not-false _ (f .if4 .left), le-leb 1 _ (c .if5 .left))
 
 pub in-range-spec : {M : Type 1} → statement M
 in-range-spec =

@@ -1,47 +1,55 @@
+-- `note`: present, no room, or stored.
+use mathlib.Core.Path.{_≡_, refl, sym, _∙_}
+use Prim.Native.Nat.{_-_}
+use native.Mathlib.Omega.{arith}
 use borrow.Author.Needs.{needs}
+use lib.ListN.{length}
+use Rattle.protocol.specs.Packets.{note-of}
+use Rattle.notelist.specs.Fits.{fitted-same}
+use Rattle.deliver.specs.NoteEffect.{note-present, notes-full, note-stored}
+use Rattle.deliver.specs.View.{passes, stops}
 use Rattle.deliver.proofs.note.Statement.{statement}
 use Rattle.deliver.proofs.note.Tie as tie
-use Rattle.deliver.proofs.note.Reads as reads
-use Rattle.deliver.proofs.note.Lts as lts
-use Rattle.notelist.proofs.count.Reads as count-reads
-use Rattle.notelist.proofs.has.Reads as has-reads
-use Rattle.notelist.proofs.push.Reads as push-reads
 
--- src/lib.rt:81:8
 has-requires : tie.Need-has-requires
 has-requires c κs = search needs
 
--- src/lib.rt:82:9
 same-length : tie.Need-same-length
 same-length c = search needs
 
--- src/lib.rt:82:9
 returns : tie.Need-returns
-returns c = search needs
+unfolding note-of
+returns c = passes 0 refl (note-present _ _ (sym (c .before .has .ensures) ∙ c .if1 .taken))
 
--- src/lib.rt:84:14
 count-requires : tie.Need-count-requires
 count-requires c κs = search needs
 
--- src/lib.rt:85:9
 same-length-2 : tie.Need-same-length-2
 same-length-2 c = search needs
 
--- src/lib.rt:85:9
 returns-2 : tie.Need-returns-2
-returns-2 c = search needs
+unfolding note-of
+returns-2 c =
+    let n = c .before in
+    let x = n .before .before in
+    stops 10 (λ e. omega arith) (notes-full _ _ (sym (x .before .has .ensures) ∙ x .if1 .left) (omega (arith, n .count .ensures))) refl
 
--- src/lib.rt:87:5
 push-requires : tie.Need-push-requires
 push-requires c κs = search needs
 
--- src/lib.rt:70:1
 same-length-3 : tie.Need-same-length-3
 same-length-3 c = search needs
 
--- src/lib.rt:70:1
 returns-3 : tie.Need-returns-3
-returns-3 c = search needs
+unfolding note-of
+returns-3 c =
+    let u = c .before .before in
+    let n = u .before .before .before in
+    let x = n .before .before in
+    let st = x .before .before .before .before in
+    let z : length (st .args .ws .now) - 1 ≡ 64 = omega (arith, st .pre .0) in
+    passes 0 refl (note-stored _ _ (sym (x .before .has .ensures) ∙ x .if1 .left) (omega (arith, n .count .ensures)) _
+    (u .push .ensures ∙ rw (z, fitted-same (note-of (st .args .p) (st .args .tn)) (st .pre .1 .sender) (st .pre .1 .receiver))))
 
 pub note-spec : {M : Type 1} → statement M
 note-spec =

@@ -1,33 +1,37 @@
+-- `ack` notes the entry in the table.
+use mathlib.Core.Path.{ap}
+use native.Mathlib.Omega.{arith}
 use borrow.Author.Needs.{needs}
+use Rattle.lists.specs.Lists.{change1}
+use Rattle.protocol.specs.Tickets.{for-message, note-entry}
+use Rattle.memory.specs.View.{table-changed}
+use Rattle.deliver.specs.Effect.{quiet, ack-effect}
+use Rattle.deliver.specs.View.{effect-of, reply-of}
 use Rattle.deliver.proofs.arrive.ack.Statement.{statement}
 use Rattle.deliver.proofs.arrive.ack.Tie as tie
-use Rattle.deliver.proofs.arrive.ack.Reads as reads
-use Rattle.deliver.proofs.arrive.ack.Lts as lts
-use Rattle.tickets.proofs.note.Reads as note-reads
 
--- src/arrive.rt:149:19
 sub-note : tie.Need-sub-note
 sub-note c = search needs
 
--- src/arrive.rt:149:19
 part-note-start : tie.Need-part-note-start
 part-note-start c = search needs
 
--- src/arrive.rt:149:19
 part-note-end : tie.Need-part-note-end
 part-note-end c = search needs
 
--- src/arrive.rt:149:5
 note-requires : tie.Need-note-requires
 note-requires c κs = search needs
 
--- src/arrive.rt:145:1
 same-length : tie.Need-same-length
 same-length c = search needs
 
--- src/arrive.rt:145:1
 returns : tie.Need-returns
-returns c = search needs
+unfolding effect-of reply-of ack-effect
+returns c =
+    let t = c .before .before in
+    let st = t .before .before .before in
+    let a = st .args in
+    ap quiet (table-changed (a .m .now) (t .note .last .0) (st .pre) (omega arith) (change1 (for-message (a .sender) (a .sn)) note-entry) (t .note .ensures))
 
 pub ack-spec : {M : Type 1} → statement M
 ack-spec =

@@ -1,61 +1,67 @@
+-- `grant_old`: the message without a TN goes.
+use mathlib.Core.Path.{_≡_, _∙_, ap, sym}
+use native.Mathlib.Omega.{arith}
 use borrow.Author.Needs.{needs}
+use Rattle.lists.specs.Lists.{remove1}
+use Rattle.protocol.specs.Packets.{lookup, for-receiver}
+use Rattle.memory.specs.View.{log-part, log-changed}
+use Rattle.deliver.specs.Effect.{quiet, grant-old-effect}
+use Rattle.deliver.specs.EffectLaws.{dropped, taken-out}
+use Rattle.deliver.specs.View.{effect-of, reply-of}
+use Rattle.deliver.proofs.Tags.{no-unticketed}
 use Rattle.deliver.proofs.arrive.grant_old.Statement.{statement}
 use Rattle.deliver.proofs.arrive.grant_old.Tie as tie
-use Rattle.deliver.proofs.arrive.grant_old.Reads as reads
-use Rattle.deliver.proofs.arrive.grant_old.Lts as lts
-use Rattle.logs.proofs.lookup.Reads as lookup-reads
-use Rattle.logs.proofs.remove.Reads as remove-reads
 
--- src/arrive.rt:97:46
 sub-lookup : tie.Need-sub-lookup
 sub-lookup c = search needs
 
--- src/arrive.rt:97:46
 part-lookup-start : tie.Need-part-lookup-start
 part-lookup-start c = search needs
 
--- src/arrive.rt:97:46
 part-lookup-end : tie.Need-part-lookup-end
 part-lookup-end c = search needs
 
--- src/arrive.rt:97:33
 lookup-requires : tie.Need-lookup-requires
 lookup-requires c κs = search needs
 
 enum-told : tie.Need-enum-told
 enum-told c = search needs
 
--- src/arrive.rt:98:9
 same-length : tie.Need-same-length
 same-length c = search needs
 
--- src/arrive.rt:98:9
 returns : tie.Need-returns
-returns c = search needs
+unfolding effect-of reply-of grant-old-effect
+returns c =
+    let k = c .before in
+    let a = k .before .before .before .before .args in
+    dropped _ _ (k .lookup .ensures ∙ ap (λ l. lookup l (a .receiver) (a .sn)) (sym (log-part (a .m .now)))) (no-unticketed _ (c .match .keys2))
 
--- src/arrive.rt:100:18
 sub-remove : tie.Need-sub-remove
 sub-remove c = search needs
 
--- src/arrive.rt:100:18
 part-remove-start : tie.Need-part-remove-start
 part-remove-start c = search needs
 
--- src/arrive.rt:100:18
 part-remove-end : tie.Need-part-remove-end
 part-remove-end c = search needs
 
--- src/arrive.rt:100:5
 remove-requires : tie.Need-remove-requires
 remove-requires c κs = search needs
 
--- src/arrive.rt:93:1
 same-length-2 : tie.Need-same-length-2
 same-length-2 c = search needs
 
--- src/arrive.rt:93:1
 returns-2 : tie.Need-returns-2
-returns-2 c = search needs
+unfolding effect-of reply-of grant-old-effect
+returns-2 c =
+    let t = c .before .before in
+    let x = t .before .before in
+    let k = x .before .before in
+    let st = k .before .before .before .before in
+    let a = st .args in
+    ap quiet (log-changed (a .m .now) (t .remove .last .0) (st .pre) (omega arith) (remove1 (for-receiver (a .receiver) (a .sn))) (t .remove .ensures))
+    ∙ taken-out _ _ (k .lookup .ensures ∙ ap (λ l. lookup l (a .receiver) (a .sn)) (sym (log-part (a .m .now)))) (x .enum-told .given .1)
 
 pub grant-old-spec : {M : Type 1} → statement M
 grant-old-spec =
