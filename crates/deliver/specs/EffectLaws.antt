@@ -1,5 +1,5 @@
 -- What each branch of the functions on a memory finds.
-use mathlib.Core.Path.{_≡_, sym, ap, _∙_}
+use mathlib.Core.Path.{_≡_}
 use mathlib.Core.Bool.{Bool, true, false}
 use mathlib.Core.Logic.{_⊎_, inl, inr}
 use mathlib.Core.List.{List}
@@ -7,12 +7,10 @@ use mathlib.Core.Option.{Option, some, none}
 use Prim.Native.Nat.{ℕ, _≤_, _<_}
 use borrow.Author.Tests.{le-leb, lt-leb, lt-ltb, le-ltb}
 use lib.ListN.{length}
-use Rattle.lists.specs.Questions.{Result, ok, refuse, asks}
+use Rattle.lists.specs.Questions.{ok, refuse, asks}
 use Rattle.arrays.specs.Front.{push, push-fits}
 use Rattle.protocol.specs.declared.Message.{Message}
 use Rattle.protocol.specs.declared.Entry.{Entry}
-use Rattle.protocol.specs.declared.Packet.{Packet}
-use Rattle.protocol.specs.declared.Content.{Content}
 use Rattle.protocol.specs.declared.Content.the-variants.{GrantOld as GRANT-old, GrantNew as GRANT-new}
 use Rattle.protocol.specs.declared.Lookup.{Lookup}
 use Rattle.protocol.specs.declared.Lookup.the-variants.{Missing, Ticketed, Unticketed}
@@ -20,7 +18,7 @@ use Rattle.protocol.specs.Parts.{Memory, with-table, table-room, most}
 use Rattle.protocol.specs.Window.{Bits, admitted, worked}
 use Rattle.protocol.specs.Packets.{is-worked}
 use Rattle.protocol.specs.Tickets.{next-tn, new-tn, filled, unreceived}
-use Rattle.deliver.specs.Effect.{Effect, quiet, answering, grant-of, new-ticket, new-ticket-questions, no-questions, ask-effect, ask-questions, unticketed, data-effect, effect, effect-questions}
+use Rattle.deliver.specs.Effect.{quiet, answering, grant-of, new-ticket, new-ticket-questions, no-questions, ask-effect, ask-questions, unticketed, data-effect}
 
 -- ---- a new ticket
 module _ (m : Memory) (a n : ℕ) where

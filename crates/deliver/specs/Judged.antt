@@ -10,7 +10,7 @@ use Rattle.protocol.specs.declared.Answer.the-variants.{Refused}
 use Rattle.protocol.specs.declared.Packet.{Packet}
 use Rattle.protocol.specs.declared.Content.the-variants.{Note as NOTE}
 use Rattle.protocol.specs.Parts.{State, up}
-use Rattle.protocol.specs.Packets.{is-named, note-of, arrive, deliver}
+use Rattle.protocol.specs.Packets.{is-named, arrive, deliver}
 use Rattle.protocol.specs.Questions.{is-chare, is-sender, on-wire, packet-questions, deliver-questions}
 use Rattle.protocol.specs.Step.{Outcome, judged}
 use Rattle.words.specs.Rows.{without}

@@ -5,7 +5,6 @@ use mathlib.Core.List.{List}
 use mathlib.Core.Option.{some}
 use Prim.Native.Nat.{ℕ, _<_}
 use lib.Dec.{eqb}
-use lib.ListN.{length}
 use Rattle.lists.specs.Lists.{find, find-some, remove1}
 use Rattle.lists.specs.Questions.{first-no, first-no-yes}
 use Rattle.protocol.specs.declared.Answer.{Answer}

@@ -1,6 +1,6 @@
 -- `deliver_note`: the list for the receiver's machine, then the wire.
 use mathlib.Core.Path.{_≡_}
-use Prim.Native.Nat.{ℕ, _+_, _*_, _-_}
+use Prim.Native.Nat.{ℕ, _+_, _-_}
 use native.Mathlib.Omega.{arith}
 use borrow.Author.Needs.{needs}
 use Rattle.store.specs.Places.{NOTELIST, notes-from}

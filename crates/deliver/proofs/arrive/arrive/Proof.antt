@@ -1,7 +1,7 @@
 -- `arrive` goes by the content.
-use mathlib.Core.Path.{refl, _∙_}
+use mathlib.Core.Path.{refl}
 use borrow.Author.Needs.{needs}
-use Rattle.deliver.specs.Effect.{effect, effect-questions, data-effect}
+use Rattle.deliver.specs.Effect.{effect, effect-questions}
 use Rattle.deliver.specs.Fits.{hops-fit}
 use Rattle.deliver.specs.View.{effect-of, reply-of, came, did}
 use Rattle.deliver.proofs.arrive.arrive.Statement.{statement}

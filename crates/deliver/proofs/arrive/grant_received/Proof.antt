@@ -1,5 +1,5 @@
 -- `grant_received`: the message without a TN gets it.
-use mathlib.Core.Path.{_≡_, _∙_, ap, sym}
+use mathlib.Core.Path.{_∙_, ap, sym}
 use native.Mathlib.Omega.{arith}
 use borrow.Author.Needs.{needs}
 use Rattle.protocol.specs.Packets.{lookup, ticketed}
