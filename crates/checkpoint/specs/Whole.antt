@@ -16,28 +16,21 @@ use Rattle.head.specs.Head.{job-of, lost-of, status-of, runs}
 use Rattle.store.specs.View.{view}
 use Rattle.store.specs.Visits.{chosen}
 use Rattle.store.specs.Framing.{machine-in}
-use Rattle.checkpoint.specs.Parts.{fixed, cleaned, clean-up}
+use Rattle.checkpoint.specs.Parts.{fixed, holding, cleaned, clean-up}
 
 -- cleaned by the heights of p's chares, the logs keep what the definition lets stay
 cleaned-is : (s : State) (p : ℕ) → clean-up (heights-on s p) s ≡ clean-logs s p
 unfolding clean-up clean-logs clean-log chosen cleaned
 cleaned-is s p = rw (← stays-is-kept s p)
 
--- fixed; then held; then without notes; then cleaned
-pub checkpoint-is : (s t u v w : State) (p : ℕ) (limit : ℕ → ℕ) → t ≡ fixed s p → u ≡ with-copies t (upd p true (t .held)) (t .copy) (t .notes) → v ≡ with-notes u (upd p [] (u .notes))
-    → limit ≡ heights-on v p → w ≡ clean-up limit v → w ≡ checkpoint s p
+-- fixed; held; cleaned
+pub checkpoint-is : (s t u v : State) (p : ℕ) (limit : ℕ → ℕ) → t ≡ fixed s p → u ≡ holding t p → limit ≡ heights-on u p → v ≡ clean-up limit u → v ≡ checkpoint s p
 unfolding checkpoint
-checkpoint-is s t u v w p limit is-t is-u is-v is-limit is-w =
-    is-w ∙ ap (λ l. clean-up l v) is-limit ∙ cleaned-is v p ∙ ap (λ x. clean-logs x p) (is-v ∙ ap emptied (is-u ∙ ap held is-t) ∙ whole)
+checkpoint-is s t u v p limit is-t is-u is-limit is-v =
+    is-v ∙ ap (λ l. clean-up l u) is-limit ∙ cleaned-is u p ∙ ap (λ x. clean-logs x p) (is-u ∙ ap (λ x. holding x p) is-t ∙ whole)
   where
-    held : State → State
-    held x = with-copies x (upd p true (x .held)) (x .copy) (x .notes)
-
-    emptied : State → State
-    emptied x = with-notes x (upd p [] (x .notes))
-
-    whole : emptied (held (fixed s p)) ≡ fix-copy (prune s p) p
-    whole = unfold fixed in unfold fix-copy in refl
+    whole : holding (fixed s p) p ≡ fix-copy (prune s p) p
+    whole = unfold holding in unfold fixed in unfold fix-copy in refl
 
 -- the questions
 module _ (xs : List ℕ) (p n : ℕ) where

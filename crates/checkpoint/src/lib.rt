@@ -1,6 +1,7 @@
 // Frame 13: a checkpoint of a machine. Its tables are pruned, its buddy gets a new copy, and the logs drop what the copy covers.
 ghost use mathlib.Core.Path.{_≡_};
 ghost use mathlib.Core.Bool.{_&&_};
+ghost use Prim.Native.Nat.{_<_};
 ghost use lib.ListN.{length};
 ghost use Rattle.lists.specs.Questions.{first-no};
 ghost use Rattle.arrays.specs.ArrayMap.{as-map};
@@ -12,7 +13,7 @@ ghost use Rattle.memory.specs.Places.{MEMORY};
 ghost use Rattle.memory.specs.View.{memory-view};
 ghost use Rattle.store.specs.Places.{STORE};
 ghost use Rattle.store.specs.View.{view, tried, Framed};
-ghost use Rattle.checkpoint.specs.Parts.{fixed, cleaned, clean-up};
+ghost use Rattle.checkpoint.specs.Parts.{fixed, holding, cleaned, clean-up};
 use head::HELD;
 use memory::LOG;
 use memory::MEMORY;
@@ -48,6 +49,19 @@ fn fix(s: &mut [u64], p: u8)
             words::copy(s, a, COPY + (c as usize) * MEMORY, MEMORY);
         }
     }
+}
+
+// The buddy holds p's copy, and no notes.
+fn hold(s: &mut [u64], p: u8)
+    requires { ⌜ length (now s) ≡ STORE ⌝ }
+    requires { ⌜ p < 7 ⌝ }
+    ensures { λ _. ⌜ view (now (s .exit)) ≡ holding (view (now (s .entry))) p ⌝ }
+{
+    let q = p as usize;
+    s[HELD + q] = 1;
+    let a = NOTES + q * NOTELIST;
+    let e = a + NOTELIST;
+    notelist::empty(&mut s[a..e]);
 }
 
 // Below which TN a log drops messages to a chare: the height of those on machine p, else 0.
@@ -126,11 +140,7 @@ pub fn checkpoint(s: &mut [u64], p: u8) -> Answer
         return Answer::Refused(no);
     }
     fix(s, p);
-    let q = p as usize;
-    s[HELD + q] = 1;
-    let a = NOTES + q * NOTELIST;
-    let e = a + NOTELIST;
-    notelist::empty(&mut s[a..e]);
+    hold(s, p);
     let l = limits(s, p);
     clean(s, &l);
     Answer::Accepted

@@ -6,19 +6,25 @@ use mathlib.Core.Logic.{_≢_, inl, inr}
 use Prim.Native.Nat.{ℕ, _+_, _<_, _≤_}
 use native.Mathlib.Omega.{arith}
 use borrow.Author.Tests.{lt-ltb, le-ltb}
-use lib.Dec.{ltb}
+use lib.Dec.{ltb, eqb}
+use lib.ListN.{length, set, length-set}
 use Rattle.lists.specs.Tests.{either, eq?, lt?}
 use Rattle.lists.specs.Map.{upd, upd-ind}
 use Rattle.arrays.specs.ArrayMap.{as-map}
-use Rattle.protocol.specs.Parts.{Job, on, at-home, blank}
+use Rattle.protocol.specs.declared.Note.{Note}
+use Rattle.protocol.specs.Parts.{Job, on, at-home, blank, with-copies}
 use Rattle.window.specs.BitLaws.{no-bits}
+use Rattle.words.specs.Part.{put}
 use Rattle.words.specs.Rows.{row}
 use Rattle.words.specs.Slots.{slots}
+use Rattle.head.specs.Head.{HELD}
 use Rattle.tickets.specs.Table as tickets
 use Rattle.logs.specs.Log as logs
 use Rattle.notelist.specs.Notes.{notes}
 use Rattle.memory.specs.View.{memory-view}
+use Rattle.store.specs.Places.{NOTELIST, STORE, notes-from}
 use Rattle.store.specs.View.{view}
+use Rattle.store.specs.ViewLaws.{held-set, notes-put, notes-length}
 
 module _ {A : Type 0} (w : ℕ → Bool) (f g : ℕ → A) where
   unfoldable pub chosen : ℕ → A
@@ -92,3 +98,14 @@ module _ (xs : List ℕ) (i : ℕ) where
   pub notes-beyond : 7 ≤ i → view xs .notes i ≡ []
   unfolding view slots notes row
   notes-beyond h = rw (le-ltb i 7 h)
+
+-- ---- whether the copy of machine p is held, and its notes, put anew
+module _ (xs : List ℕ) (size : length xs ≡ STORE) (p : ℕ) (h : p < 7) (w : ℕ) (ys : List ℕ) (long : length ys ≡ NOTELIST) where
+  set-size : length (set xs (HELD + p) w) ≡ STORE
+  set-size = simp length-set size
+
+  pub held-length : length (put (notes-from p) NOTELIST (set xs (HELD + p) w) ys) ≡ STORE
+  held-length = notes-length (set xs (HELD + p) w) set-size p h ys long
+
+  pub held-put : (l : List Note) → notes ys ≡ l → view (put (notes-from p) NOTELIST (set xs (HELD + p) w) ys) ≡ with-copies (view xs) (upd p (eqb w 1) (view xs .held)) (view xs .copy) (upd p l (view xs .notes))
+  held-put l e = notes-put (set xs (HELD + p) w) set-size p h ys long ∙ rw (held-set xs size w p h, e)
