@@ -1,5 +1,4 @@
 -- One word of a head set: the part that has it says so, the others say what they said.
-use mathlib.Core.Bool.{Bool}
 use mathlib.Core.List.{List}
 use mathlib.Core.Path.{_≡_, sym, ap, fun-ext, _∙_}
 use Prim.Native.Nat.{ℕ, _+_, _<_, _≤_}

@@ -1,0 +1,14 @@
+-- `packets::count` meets its contract: a packet a word.
+use borrow.Author.Needs.{needs}
+use Rattle.packets.specs.View.{counted}
+use Rattle.packets.proofs.count.Statement.{statement}
+use Rattle.packets.proofs.count.Tie as tie
+
+count-requires : tie.Need-count-requires
+count-requires c κs = search needs
+
+returns : tie.Need-returns
+returns c = counted _ _ (c .count .ensures .0)
+
+pub count-spec : {M : Type 1} → statement M
+count-spec = tie.close (tie.spec count-requires returns)

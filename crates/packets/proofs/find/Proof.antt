@@ -1,0 +1,106 @@
+-- `packets::find` meets its contract: i words have another name.
+use mathlib.Core.Path.{_≡_, sym, ap, _∙_}
+use Prim.Native.Nat.{_+_, _-_, _≤_}
+use native.Mathlib.Omega.{arith}
+use borrow.Author.Needs.{needs}
+use lib.ListN.{drop}
+use Rattle.arrays.specs.Place.{place, place-start}
+use Rattle.words.specs.Rows.{row, row-at, seek-hit, seek-miss, seek-end}
+use Rattle.packets.specs.Words.{unpacked}
+use Rattle.packets.specs.View.{sought-at, sought-none}
+use Rattle.packets.specs.Names.{has-name, by-name, nobody}
+use Rattle.packets.proofs.find.Statement.{statement}
+use Rattle.packets.proofs.find.Tie as tie
+
+abbrev Inv-loop : tie.InvT-loop
+Inv-loop ws k sender receiver sn name n i₀ i = (i ≤ n) × (place (has-name name k) (row ws) ≡ i + place (has-name name k) (drop i (row ws)))
+
+abbrev μ-loop : tie.MeasureT-loop
+μ-loop ws k sender receiver sn name n i₀ i = n - i
+
+returns : tie.Need-returns Inv-loop μ-loop
+returns c = nobody _ _ _ _ _ (λ s r. omega arith)
+
+returns-2 : tie.Need-returns-2 Inv-loop μ-loop
+returns-2 c = nobody _ _ _ _ _ (λ s r. omega arith)
+
+mul-name : tie.Need-mul-name Inv-loop μ-loop
+mul-name c = search needs
+
+add-name : tie.Need-add-name Inv-loop μ-loop
+add-name c = search needs
+
+mul-name-2 : tie.Need-mul-name-2 Inv-loop μ-loop
+mul-name-2 c = search needs
+
+add-name-2 : tie.Need-add-name-2 Inv-loop μ-loop
+add-name-2 c = search needs
+
+count-requires : tie.Need-count-requires Inv-loop μ-loop
+count-requires c κs = search needs
+
+loop-holds : tie.Need-loop-holds Inv-loop μ-loop
+loop-holds c = (search needs, place-start _ _)
+
+add-w : tie.Need-add-w Inv-loop μ-loop
+add-w c = search needs
+
+mul-w : tie.Need-mul-w Inv-loop μ-loop
+mul-w c = search needs
+
+shared-slice-read-w : tie.Need-shared-slice-read-w Inv-loop μ-loop
+shared-slice-read-w c = search needs
+
+has-name-requires : tie.Need-has-name-requires Inv-loop μ-loop
+has-name-requires c κs = search needs
+
+unpack-requires : tie.Need-unpack-requires Inv-loop μ-loop
+unpack-requires c κs = search needs
+
+returns-3 : tie.Need-returns-3 Inv-loop μ-loop
+returns-3 c =
+    let h = c .before .before in
+    let l = h .before .before .before .loop in
+    sought-at _ _ _ (λ w. by-name _ _ _ _ (omega arith) (omega arith) (search needs) w) _ (seek-hit _ _ _ (l .inv .1) (omega arith) (sym (h .has-name .ensures) ∙ c .before .if3 .taken)) _ (c .unpack .ensures ∙ ap unpacked (row-at _ _ (omega arith))) (omega arith)
+
+add-i : tie.Need-add-i Inv-loop μ-loop
+add-i c = search needs
+
+loop-less : tie.Need-loop-less Inv-loop μ-loop
+loop-less c = search needs
+
+loop-again : tie.Need-loop-again Inv-loop μ-loop
+loop-again c =
+    let h = c .before in
+    let l = h .before .before .before .loop in
+    (search needs, seek-miss _ _ _ (l .inv .1) (omega arith) (sym (h .has-name .ensures) ∙ c .if3 .left))
+
+returns-4 : tie.Need-returns-4 Inv-loop μ-loop
+returns-4 c =
+    let l = c .before .loop in
+    sought-none _ _ _ (λ w. by-name _ _ _ _ (omega arith) (omega arith) (search needs) w) _ (seek-end _ _ _ (l .inv .1) (omega arith)) (omega arith)
+
+pub find-spec : {M : Type 1} → statement M
+find-spec =
+    tie.close
+    (tie.spec
+    Inv-loop
+    μ-loop
+    returns
+    returns-2
+    mul-name
+    add-name
+    mul-name-2
+    add-name-2
+    count-requires
+    loop-holds
+    add-w
+    mul-w
+    shared-slice-read-w
+    has-name-requires
+    unpack-requires
+    returns-3
+    add-i
+    loop-less
+    loop-again
+    returns-4)

@@ -1,0 +1,21 @@
+-- `packets::kind` meets its contract: a kind that no packet has counts as ACK.
+use mathlib.Core.Path.{refl}
+use borrow.Author.Needs.{needs}
+use Rattle.packets.specs.Names.{kind-zero, kind-past, kind-shown}
+use Rattle.packets.proofs.kind.Statement.{statement}
+use Rattle.packets.proofs.kind.Tie as tie
+
+cast-k : tie.Need-cast-k
+cast-k c = search needs
+
+returns : tie.Need-returns
+returns c = kind-zero _ _ refl (c .if1 .taken)
+
+returns-2 : tie.Need-returns-2
+returns-2 c = kind-past _ _ refl (c .if2 .taken)
+
+returns-3 : tie.Need-returns-3
+returns-3 c = kind-shown _ _ refl (c .before .if1 .left) (c .if2 .left)
+
+pub kind-spec : {M : Type 1} → statement M
+kind-spec = tie.close (tie.spec cast-k returns returns-2 returns-3)

@@ -1,0 +1,17 @@
+-- `packets::leave` meets its contract: a word less.
+use borrow.Author.Needs.{needs}
+use Rattle.packets.specs.View.{left}
+use Rattle.packets.proofs.leave.Statement.{statement}
+use Rattle.packets.proofs.leave.Tie as tie
+
+remove-requires : tie.Need-remove-requires
+remove-requires c κs = search needs
+
+same-length : tie.Need-same-length
+same-length c = search needs
+
+returns : tie.Need-returns
+returns c = left _ _ _ (c .before .before .remove .ensures)
+
+pub leave-spec : {M : Type 1} → statement M
+leave-spec = tie.close (tie.spec remove-requires same-length returns)
