@@ -2,3 +2,5 @@
 pub mod Places
 pub mod View
 pub mod ViewLaws
+pub mod Visits
+pub mod Framing

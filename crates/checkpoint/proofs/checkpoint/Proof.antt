@@ -1,0 +1,88 @@
+use Rattle.checkpoint.specs.Whole.{checkpoint-in, checkpoint-is}
+use Rattle.store.specs.Framing.{refused, accepted}
+use Rattle.store.specs.View.{view, tried}
+use Rattle.arrays.specs.ArrayMap.{as-map}
+use native.Mathlib.Omega.{arith}
+use borrow.Author.Needs.{needs}
+use Rattle.checkpoint.proofs.checkpoint.Statement.{statement}
+use Rattle.checkpoint.proofs.checkpoint.Tie as tie
+use Rattle.checkpoint.proofs.checkpoint.Reads as reads
+use Rattle.checkpoint.proofs.checkpoint.Lts as lts
+use Rattle.checkpoint.proofs.clean.Reads as clean-reads
+use Rattle.checkpoint.proofs.fix.Reads as fix-reads
+use Rattle.checkpoint.proofs.hold.Reads as hold-reads
+use Rattle.checkpoint.proofs.judge.Reads as judge-reads
+use Rattle.checkpoint.proofs.limits.Reads as limits-reads
+
+-- src/lib.rt:138:9
+judge-requires : tie.Need-judge-requires
+judge-requires c κs = search needs
+
+-- src/lib.rt:140:9
+same-length : tie.Need-same-length
+same-length c = search needs
+
+-- src/lib.rt:140:9
+returns : tie.Need-returns
+unfolding tried
+returns c =
+    let j = c .before in
+    let st = j .before .before .before in
+    refused (st .args .s .now) _ _ (j .judge .ensures) _ (c .if1 .taken)
+
+-- src/lib.rt:142:5
+fix-requires : tie.Need-fix-requires
+fix-requires c κs = search needs
+
+-- src/lib.rt:143:5
+hold-requires : tie.Need-hold-requires
+hold-requires c κs =
+    let x = c .before .before .before .before .before in
+    let j = x .before in
+    let st = j .before .before .before in
+    let h = checkpoint-in (st .args .s .now) (st .args .p) (j .judge .result) (j .judge .ensures) (search needs) in
+    (search needs, omega arith)
+
+-- src/lib.rt:144:13
+limits-requires : tie.Need-limits-requires
+limits-requires c κs = search needs
+
+-- src/lib.rt:145:14
+slice-aggregate-clean : tie.Need-slice-aggregate-clean
+slice-aggregate-clean c = search needs
+
+-- src/lib.rt:145:5
+clean-requires : tie.Need-clean-requires
+clean-requires c κs = search needs
+
+-- src/lib.rt:134:1
+same-length-2 : tie.Need-same-length-2
+same-length-2 c = search needs
+
+-- src/lib.rt:134:1
+returns-2 : tie.Need-returns-2
+returns-2 c =
+    let k = c .before .before in
+    let l = k .before .before .before in
+    let h = l .before .before .before .before in
+    let f = h .before .before .before .before in
+    let x = f .before .before in
+    let j = x .before in
+    let st = j .before .before .before in
+    accepted (st .args .s .now) _ _ (j .judge .ensures) (k .clean .last .0) _ (search needs)
+    (checkpoint-is _ (view (f .fix .last .0)) (view (h .hold .last .0)) _ (st .args .p) (as-map 0 (l .limits .result)) (f .fix .ensures) (h .hold .ensures) (l .limits .ensures) (k .clean .ensures))
+
+pub checkpoint-spec : {M : Type 1} → statement M
+checkpoint-spec =
+    tie.close
+    (tie.spec
+    judge-requires
+    same-length
+    returns
+    fix-requires
+    hold-requires
+    limits-requires
+    slice-aggregate-clean
+    clean-requires
+    same-length-2
+    returns-2)

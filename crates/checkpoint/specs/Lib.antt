@@ -1,0 +1,7 @@
+-- What the contracts of checkpoint say, and the laws behind them.
+pub mod Parts
+pub mod Rows
+pub mod Fixing
+pub mod Limits
+pub mod Cleaning
+pub mod Whole

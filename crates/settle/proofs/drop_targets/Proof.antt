@@ -1,0 +1,59 @@
+-- `settle::drop_targets` meets its contract: the targets of the chares before c are dropped.
+use mathlib.Core.Path.{_≡_, _∙_, ap}
+use Prim.Native.Nat.{_-_, _≤_}
+use native.Mathlib.Omega.{arith}
+use borrow.Author.Needs.{needs}
+use lib.ListN.{length}
+use Rattle.store.specs.Places.{STORE}
+use Rattle.store.specs.View.{view}
+use Rattle.settle.specs.Targets.{dropped, desk, below, below-start, below-more, below-end}
+use Rattle.settle.proofs.drop_targets.Statement.{statement}
+use Rattle.settle.proofs.drop_targets.Tie as tie
+
+abbrev Inv-loop : tie.InvT-loop
+Inv-loop s₀ p c₀ s c = (1 ≤ c) × (c ≤ 13) × (length s ≡ STORE) × (view s ≡ below (view s₀) p c)
+
+abbrev μ-loop : tie.MeasureT-loop
+μ-loop s₀ p c₀ s c = 13 - c
+
+loop-holds : tie.Need-loop-holds Inv-loop μ-loop
+loop-holds c =
+    let st = c .before in
+    (search needs, search needs, st .pre .0, below-start _ _ (desk _ _ (st .pre .0) (st .pre .1)))
+
+drop-target-requires : tie.Need-drop-target-requires Inv-loop μ-loop
+drop-target-requires c κs = search needs
+
+add-c : tie.Need-add-c Inv-loop μ-loop
+add-c c = search needs
+
+loop-less : tie.Need-loop-less Inv-loop μ-loop
+loop-less c = search needs
+
+loop-again : tie.Need-loop-again Inv-loop μ-loop
+loop-again c =
+    let l = c .before .before .before .before .before in
+    (search needs, search needs, search needs, c .before .before .drop-target .ensures ∙ ap (λ v. dropped v (l .before .before .args .p) (l .loop .c)) (l .loop .inv .3) ∙ below-more _ _ (l .loop .c))
+
+same-length : tie.Need-same-length Inv-loop μ-loop
+same-length c = search needs
+
+returns : tie.Need-returns Inv-loop μ-loop
+returns c =
+    let st = c .before .before .before in
+    let l = c .before .loop in
+    l .inv .3 ∙ below-end _ _ (desk _ _ (st .pre .0) (st .pre .1)) (l .c) (omega arith)
+
+pub drop-targets-spec : {M : Type 1} → statement M
+drop-targets-spec =
+    tie.close
+    (tie.spec
+    Inv-loop
+    μ-loop
+    loop-holds
+    drop-target-requires
+    add-c
+    loop-less
+    loop-again
+    same-length
+    returns)

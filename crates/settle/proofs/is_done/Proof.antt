@@ -1,0 +1,67 @@
+-- `settle::is_done` meets its contract: those before c pass, so the answer is that for the rest.
+use mathlib.Core.Path.{_≡_, sym, _∙_}
+use Prim.Native.Nat.{_-_, _≤_}
+use native.Mathlib.Omega.{arith}
+use borrow.Author.Needs.{needs}
+use borrow.Author.Tests.{not-true, not-false}
+use Rattle.protocol.specs.Restart.{is-done}
+use Rattle.layout.specs.Loops.{each, each-hit, each-miss, each-end}
+use Rattle.store.specs.View.{view}
+use Rattle.settle.specs.Done.{passes, not-done, each-passes}
+use Rattle.settle.proofs.is_done.Statement.{statement}
+use Rattle.settle.proofs.is_done.Tie as tie
+
+abbrev Inv-loop : tie.InvT-loop
+Inv-loop s p c₀ c = (1 ≤ c) × (c ≤ 13) × (is-done (view s) p ≡ each (passes (view s) p) (13 - c) c)
+
+abbrev μ-loop : tie.MeasureT-loop
+μ-loop s p c₀ c = 13 - c
+
+is-catching-up-requires : tie.Need-is-catching-up-requires Inv-loop μ-loop
+is-catching-up-requires c κs = search needs
+
+returns : tie.Need-returns Inv-loop μ-loop
+returns c = not-done _ _ (sym (c .before .is-catching-up .ensures) ∙ not-true _ (c .if1 .taken))
+
+loop-holds : tie.Need-loop-holds Inv-loop μ-loop
+loop-holds c = (search needs, search needs, each-passes _ _ (sym (c .before .is-catching-up .ensures) ∙ not-false _ (c .if1 .left)))
+
+passes-requires : tie.Need-passes-requires Inv-loop μ-loop
+passes-requires c κs = search needs
+
+returns-2 : tie.Need-returns-2 Inv-loop μ-loop
+returns-2 c =
+    let l = c .before .before .before .loop in
+    each-miss _ 13 (l .c) _ (l .inv .2) (omega arith) (sym (c .before .passes .ensures) ∙ not-true _ (c .if2 .taken))
+
+add-c : tie.Need-add-c Inv-loop μ-loop
+add-c c = search needs
+
+loop-less : tie.Need-loop-less Inv-loop μ-loop
+loop-less c = search needs
+
+loop-again : tie.Need-loop-again Inv-loop μ-loop
+loop-again c =
+    let l = c .before .before .before .loop in
+    (search needs, search needs, each-hit _ 13 (l .c) _ (l .inv .2) (omega arith) (sym (c .before .passes .ensures) ∙ not-false _ (c .if2 .left)))
+
+returns-3 : tie.Need-returns-3 Inv-loop μ-loop
+returns-3 c =
+    let l = c .before .loop in
+    each-end _ 13 (l .c) _ (l .inv .2) (omega arith)
+
+pub is-done-spec : {M : Type 1} → statement M
+is-done-spec =
+    tie.close
+    (tie.spec
+    Inv-loop
+    μ-loop
+    is-catching-up-requires
+    returns
+    loop-holds
+    passes-requires
+    returns-2
+    add-c
+    loop-less
+    loop-again
+    returns-3)

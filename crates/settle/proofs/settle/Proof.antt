@@ -1,0 +1,56 @@
+-- `settle::settle` meets its contract: the machines from p on are still to settle.
+use mathlib.Core.Path.{_≡_}
+use Prim.Native.Nat.{_-_, _≤_}
+use native.Mathlib.Omega.{arith}
+use borrow.Author.Needs.{needs}
+use lib.ListN.{length}
+use Rattle.store.specs.Places.{STORE}
+use Rattle.store.specs.View.{view}
+use Rattle.settle.specs.Settled.{Going, going-start, going-more, going-end}
+use Rattle.settle.proofs.settle.Statement.{statement}
+use Rattle.settle.proofs.settle.Tie as tie
+
+abbrev Inv-loop : tie.InvT-loop
+Inv-loop s₀ p₀ s p = (1 ≤ p) × (p ≤ 7) × (length s ≡ STORE) × Going (view s₀) p (view s)
+
+abbrev μ-loop : tie.MeasureT-loop
+μ-loop s₀ p₀ s p = 7 - p
+
+loop-holds : tie.Need-loop-holds Inv-loop μ-loop
+loop-holds c = (search needs, search needs, search needs, going-start _)
+
+settle-machine-requires : tie.Need-settle-machine-requires Inv-loop μ-loop
+settle-machine-requires c κs = search needs
+
+add-p : tie.Need-add-p Inv-loop μ-loop
+add-p c = search needs
+
+loop-less : tie.Need-loop-less Inv-loop μ-loop
+loop-less c = search needs
+
+loop-again : tie.Need-loop-again Inv-loop μ-loop
+loop-again c =
+    let l = c .before .before .before .before .before in
+    (search needs, search needs, search needs, going-more _ (l .loop .p) _ (l .loop .inv .3) (omega arith) _ (c .before .before .settle-machine .ensures))
+
+same-length : tie.Need-same-length Inv-loop μ-loop
+same-length c = search needs
+
+returns : tie.Need-returns Inv-loop μ-loop
+returns c =
+    let l = c .before .loop in
+    going-end _ (l .p) _ (l .inv .3) (omega arith)
+
+pub settle-spec : {M : Type 1} → statement M
+settle-spec =
+    tie.close
+    (tie.spec
+    Inv-loop
+    μ-loop
+    loop-holds
+    settle-machine-requires
+    add-p
+    loop-less
+    loop-again
+    same-length
+    returns)

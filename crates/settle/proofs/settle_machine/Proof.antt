@@ -1,0 +1,56 @@
+-- `settle::settle_machine` meets its contract: done, or not.
+use mathlib.Core.Path.{sym, _∙_}
+use Prim.Native.Nat.{_+_}
+use native.Mathlib.Omega.{arith}
+use borrow.Author.Needs.{needs}
+use lib.ListN.{length-set}
+use Rattle.head.specs.Head.{STATUS}
+use Rattle.settle.specs.Settled.{machine-stays, machine-settles}
+use Rattle.settle.proofs.settle_machine.Statement.{statement}
+use Rattle.settle.proofs.settle_machine.Tie as tie
+
+is-done-requires : tie.Need-is-done-requires
+is-done-requires c κs = search needs
+
+add-s : tie.Need-add-s
+add-s c = search needs
+
+mul-s : tie.Need-mul-s
+mul-s c = search needs
+
+slice-write-s : tie.Need-slice-write-s
+slice-write-s c = search needs
+
+drop-targets-requires : tie.Need-drop-targets-requires
+drop-targets-requires c κs = search needs
+
+same-length : tie.Need-same-length
+same-length c =
+    let st = c .before .before .before .before .before .before .before .before in
+    c .before .before .drop-targets .kept .0 ∙ length-set (st .args .s .now) (STATUS + st .args .p) 0
+
+returns : tie.Need-returns
+returns c =
+    let t = c .before .before .before .before in
+    let st = t .before .before .before .before in
+    machine-settles _ _ _ (st .pre .0) (omega arith) (sym (t .before .is-done .ensures) ∙ t .if1 .taken) (c .before .before .drop-targets .ensures)
+
+same-length-2 : tie.Need-same-length-2
+same-length-2 c = search needs
+
+returns-2 : tie.Need-returns-2
+returns-2 c = machine-stays _ _ (sym (c .before .is-done .ensures) ∙ c .if1 .left)
+
+pub settle-machine-spec : {M : Type 1} → statement M
+settle-machine-spec =
+    tie.close
+    (tie.spec
+    is-done-requires
+    add-s
+    mul-s
+    slice-write-s
+    drop-targets-requires
+    same-length
+    returns
+    same-length-2
+    returns-2)

@@ -1,0 +1,59 @@
+-- What frame 16 leaves, before machines settle.
+use mathlib.Core.Path.{_≡_, refl, sym, ap, _∙_}
+use mathlib.Core.Logic.{_≢_}
+use mathlib.Core.List.{List}
+use Prim.Native.Nat.{ℕ, _+_, _-_, _<_}
+use native.Mathlib.Omega.{arith}
+use lib.ListN.{length}
+use Rattle.lists.specs.Questions.{asks, yes-asks, first-no, first-no-yes, asks-first}
+use Rattle.protocol.specs.declared.Answer.the-variants.{Shown, Refused}
+use Rattle.protocol.specs.Parts.{State, up}
+use Rattle.protocol.specs.Questions.{show-questions, is-chare}
+use Rattle.protocol.specs.Step.{Outcome, judged}
+use Rattle.layout.specs.JobLaws.{between-true}
+use Rattle.words.specs.Part.{part}
+use Rattle.head.specs.Head.{job-of, lost-of, status-of, runs, chare-asked}
+use Rattle.head.specs.HeadLaws.{chares-top}
+use Rattle.memory.specs.Places.{MEMORY}
+use Rattle.memory.specs.View.{memory-view}
+use Rattle.store.specs.Places.{live-from}
+use Rattle.store.specs.View.{view, outcome}
+use Rattle.store.specs.ViewLaws.{live-at}
+
+unfoldable pub shown : State → ℕ → Outcome
+shown s c = record { state = s; answer = Shown (s .live c .height) (s .live c .state) }
+
+-- as the code goes: n is the number of the first "no"
+module _ (xs : List ℕ) (c n : ℕ) (is-n : n ≡ first-no 2 (chare-asked (job-of xs) (lost-of xs) (status-of xs) c)) where
+  abbrev the-outcome : Outcome
+  the-outcome = judged (view xs) (asks 2 (show-questions (view xs) c) (shown (view xs) c))
+
+  asked : n ≡ first-no 2 (show-questions (view xs) c)
+  unfolding chare-asked show-questions is-chare view up runs
+  asked = is-n
+
+  pub show-refused : n ≢ 0 → outcome xs (Refused n) ≡ the-outcome
+  unfolding outcome judged
+  show-refused h = rw (asks-first 2 (show-questions (view xs) c) (shown (view xs) c) (λ z. h (asked ∙ z)), ← asked)
+
+  module _ (z : n ≡ 0) where
+    pub chare-in : c < 13
+    unfolding chare-asked
+    chare-in =
+        let y = first-no-yes 1 (chare-asked (job-of xs) (lost-of xs) (status-of xs) c) (sym is-n ∙ z) in
+        let h = between-true 1 (job-of xs .chares) c (y .1 .0) in
+        omega (arith, chares-top xs)
+
+    -- the part that the code lends has the length between its ends
+    abbrev long : ℕ
+    long = (live-from c + MEMORY) - live-from c
+
+    pub show-done : (height state : ℕ)
+        → height ≡ memory-view (part (live-from c) long xs) .height
+        → state ≡ memory-view (part (live-from c) long xs) .state
+        → outcome xs (Shown height state) ≡ the-outcome
+    unfolding outcome judged shown
+    show-done height state h s =
+        let e : long ≡ MEMORY = omega arith in
+        let yes = first-no-yes 1 (show-questions (view xs) c) (sym asked ∙ z) in
+        rw (yes-asks 2 (show-questions (view xs) c) (shown (view xs) c) yes, h, s, e, ← live-at xs c chare-in)

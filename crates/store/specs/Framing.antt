@@ -1,0 +1,45 @@
+-- A frame's questions: the number of the first that is answered "no" decides.
+use mathlib.Core.Path.{_≡_, refl, sym, ap, _∙_}
+use mathlib.Core.Bool.{Bool, true}
+use mathlib.Core.Logic.{_≢_}
+use mathlib.Core.List.{List, [], _∷_}
+use Prim.Native.Nat.{ℕ, _≤_}
+use native.Mathlib.Omega.{arith}
+use borrow.Author.Tests.{leb-true}
+use lib.Dec.{leb}
+use Rattle.lists.specs.Tests.{and-l, and-r}
+use Rattle.lists.specs.Questions.{asks, yes-asks, first-no, first-no-yes, asks-first}
+use Rattle.protocol.specs.declared.Answer.{Answer}
+use Rattle.protocol.specs.declared.Answer.the-variants.{Accepted, Refused}
+use Rattle.protocol.specs.Frames.{between}
+use Rattle.protocol.specs.Parts.{State}
+use Rattle.protocol.specs.Step.{Outcome, judged}
+use Rattle.head.specs.Head.{job-of}
+use Rattle.head.specs.HeadLaws.{machines-top}
+use Rattle.store.specs.View.{view, outcome, tried, Framed}
+
+-- n is what the code finds
+module _ (xs : List ℕ) (l : List Bool) (n : ℕ) (e : n ≡ first-no 2 l) where
+  pub refused : (o : Outcome) → n ≢ 0 → Framed xs xs (Refused n) (judged (view xs) (asks 2 l o))
+  unfolding outcome judged
+  refused o h = record { gives = rw (asks-first 2 l o (λ z. h (e ∙ z)), ← e); stays = λ m q. refl }
+
+  passed : (o : Outcome) → n ≡ 0 → judged (view xs) (asks 2 l o) ≡ o
+  unfolding judged
+  passed o h = rw (yes-asks 2 l o (first-no-yes 1 l (sym e ∙ h)))
+
+  pub answered : (ys : List ℕ) (a : Answer) (o : Outcome) → ((m : ℕ) → a ≢ Refused m) → n ≡ 0 → outcome ys a ≡ o → Framed xs ys a (judged (view xs) (asks 2 l o))
+  answered ys a o d h q = record { gives = q ∙ sym (passed o h); stays = λ m z. absurd (d m z) }
+
+  pub accepted : (ys : List ℕ) (s : State) → n ≡ 0 → view ys ≡ s → Framed xs ys Accepted (tried (view xs) l s)
+  unfolding outcome tried
+  accepted ys s h q = answered ys Accepted _ (λ m z. absurd (let y : _≡_ {A = ℕ} 0 1 = cc in omega arith)) h (rw q)
+
+-- a machine that passed is one of six
+pub machine-in : (xs : List ℕ) (p n : ℕ) (a b c d : Bool) → n ≡ first-no 2 (a ∷ b ∷ c ∷ d ∷ []) → b ≡ between 1 (job-of xs .machines) p → n ≡ 0 → (1 ≤ p) × (p ≤ 6)
+unfolding between
+machine-in xs p n a b c d e r z =
+    let y : between 1 (job-of xs .machines) p ≡ true = sym r ∙ first-no-yes 1 (a ∷ b ∷ c ∷ d ∷ []) (sym e ∙ z) .1 .0 in
+    let low = leb-true 1 p (and-l (leb 1 p) (leb p (job-of xs .machines)) y) in
+    let high = leb-true p (job-of xs .machines) (and-r (leb 1 p) (leb p (job-of xs .machines)) y) in
+    (omega arith, omega (arith, machines-top xs))

@@ -1,0 +1,111 @@
+-- A loop through the chares, or the machines, of a store that changes some of them: w says which, f what they become, g is the map before.
+use mathlib.Core.Path.{_≡_, refl, sym, ap, _∙_, fun-ext}
+use mathlib.Core.Bool.{Bool, true, false, cond}
+use mathlib.Core.List.{List, []}
+use mathlib.Core.Logic.{_≢_, inl, inr}
+use Prim.Native.Nat.{ℕ, _+_, _<_, _≤_}
+use native.Mathlib.Omega.{arith}
+use borrow.Author.Tests.{lt-ltb, le-ltb}
+use lib.Dec.{ltb, eqb}
+use lib.ListN.{length, set, length-set}
+use Rattle.lists.specs.Tests.{either, eq?, lt?}
+use Rattle.lists.specs.Map.{upd, upd-ind}
+use Rattle.arrays.specs.ArrayMap.{as-map}
+use Rattle.protocol.specs.declared.Note.{Note}
+use Rattle.protocol.specs.Parts.{Job, on, at-home, blank, with-copies}
+use Rattle.window.specs.BitLaws.{no-bits}
+use Rattle.words.specs.Part.{put}
+use Rattle.words.specs.Rows.{row}
+use Rattle.words.specs.Slots.{slots}
+use Rattle.head.specs.Head.{HELD}
+use Rattle.tickets.specs.Table as tickets
+use Rattle.logs.specs.Log as logs
+use Rattle.notelist.specs.Notes.{notes}
+use Rattle.memory.specs.View.{memory-view}
+use Rattle.store.specs.Places.{NOTELIST, STORE, notes-from}
+use Rattle.store.specs.View.{view}
+use Rattle.store.specs.ViewLaws.{held-set, notes-put, notes-length}
+
+module _ {A : Type 0} (w : ℕ → Bool) (f g : ℕ → A) where
+  unfoldable pub chosen : ℕ → A
+  chosen i = cond (w i) (f i) (g i)
+
+  -- the loop has passed k
+  unfoldable pub visited : ℕ → ℕ → A
+  visited k i = cond (ltb i k) (chosen i) (g i)
+
+  below : (k i : ℕ) → i < k → visited k i ≡ chosen i
+  unfolding visited
+  below k i h = rw (lt-ltb i k h)
+
+  above : (k i : ℕ) → k ≤ i → visited k i ≡ g i
+  unfolding visited
+  above k i h = rw (le-ltb i k h)
+
+  pub visit-none : g ≡ visited 0
+  visit-none = fun-ext (λ i. sym (above 0 i (omega arith)))
+
+  -- the one in hand is as it was
+  pub visit-here : (k : ℕ) → visited k k ≡ g k
+  visit-here k = above k k (omega arith)
+
+  other : (k i : ℕ) → i ≢ k → visited k i ≡ visited (k + 1) i
+  other k i n = elim (lt? i k) [
+    | inl l ↦ below k i l ∙ sym (below (k + 1) i (omega arith))
+    | inr l ↦ above k i l ∙ sym (above (k + 1) i (later n l))
+  ]
+    where
+      later : i ≢ k → k ≤ i → k + 1 ≤ i
+      later n l = omega arith
+
+  pub visit-hit : (k : ℕ) → w k ≡ true → (v : A) → v ≡ f k → upd k v (visited k) ≡ visited (k + 1)
+  unfolding chosen
+  visit-hit k e v q = fun-ext (upd-ind (λ i x. x ≡ visited (k + 1) i) k v (visited k) (sym (below (k + 1) k (omega arith) ∙ rw e (sym q))) (other k))
+
+  pub visit-miss : (k : ℕ) → w k ≡ false → visited k ≡ visited (k + 1)
+  unfolding chosen
+  visit-miss k e = fun-ext (λ i. elim (eq? i k) [
+    | inl q ↦ rw q (visit-here k ∙ sym (below (k + 1) k (omega arith) ∙ rw e))
+    | inr n ↦ other k i n
+  ])
+
+  -- the loop has passed all; from n on there is nothing to change
+  pub visit-all : (k n : ℕ) → n ≤ k → ((i : ℕ) → n ≤ i → f i ≡ g i) → visited k ≡ chosen
+  visit-all k n h e = fun-ext (λ i. elim (lt? i k) [ inl l ↦ below k i l | inr l ↦ above k i l ∙ sym (past i (e i (omega arith))) ])
+    where
+      past : (i : ℕ) → f i ≡ g i → chosen i ≡ g i
+      past i q = unfold chosen in rw q (either (w i) (λ x. rw x) (λ x. rw x))
+
+-- what the definitions do on machine p
+pub home-chosen : {A : Type 0} (j : Job) (p : ℕ) (h : ℕ → A → A) (g : ℕ → A) → at-home j p h g ≡ chosen (on j p) (λ c. h c (g c)) g
+unfolding at-home chosen
+home-chosen j p h g = refl
+
+-- ---- past the last there is nothing
+no-memory : memory-view [] ≡ blank
+unfolding memory-view blank as-map tickets.entries logs.entries row
+no-memory = simp no-bits
+
+module _ (xs : List ℕ) (i : ℕ) where
+  pub live-beyond : 13 ≤ i → view xs .live i ≡ blank
+  unfolding view slots
+  live-beyond h = rw (le-ltb i 13 h) no-memory
+
+  pub copy-beyond : 13 ≤ i → view xs .copy i ≡ blank
+  unfolding view slots
+  copy-beyond h = rw (le-ltb i 13 h) no-memory
+
+  pub notes-beyond : 7 ≤ i → view xs .notes i ≡ []
+  unfolding view slots notes row
+  notes-beyond h = rw (le-ltb i 7 h)
+
+-- ---- whether the copy of machine p is held, and its notes, put anew
+module _ (xs : List ℕ) (size : length xs ≡ STORE) (p : ℕ) (h : p < 7) (w : ℕ) (ys : List ℕ) (long : length ys ≡ NOTELIST) where
+  set-size : length (set xs (HELD + p) w) ≡ STORE
+  set-size = simp length-set size
+
+  pub held-length : length (put (notes-from p) NOTELIST (set xs (HELD + p) w) ys) ≡ STORE
+  held-length = notes-length (set xs (HELD + p) w) set-size p h ys long
+
+  pub held-put : (l : List Note) → notes ys ≡ l → view (put (notes-from p) NOTELIST (set xs (HELD + p) w) ys) ≡ with-copies (view xs) (upd p (eqb w 1) (view xs .held)) (view xs .copy) (upd p l (view xs .notes))
+  held-put l e = notes-put (set xs (HELD + p) w) set-size p h ys long ∙ rw (held-set xs size w p h, e)
