@@ -52,8 +52,5 @@ pub fn work_entry(x: Numbers, e: Entry) -> Worked
         mark: d.mark as u64,
         window: d.window,
     };
-    Worked {
-        answer: 0,
-        numbers,
-    }
+    Worked { answer: 0, numbers }
 }
