@@ -20,7 +20,7 @@ fn refused(x: Numbers, n: u8) -> Worked
     }
 }
 
-// Question 6: received and noted. The sender's test is the rule book's, of a time when there were marks for 13 only.
+// Question 6: received and noted. The rule book also asks for a sender of at most 12.
 fn is_ready(e: Entry) -> bool
     ensures { λ r. ⌜ r ≡ is-ready e ⌝ }
 {
