@@ -1,5 +1,5 @@
 -- What a send leaves of a memory and of the wire, from what the functions on their rows answer.
-use mathlib.Core.Path.{_≡_, _∙_, ap, sym}
+use mathlib.Core.Path.{_≡_, _∙_}
 use mathlib.Core.List.{List}
 use Prim.Native.Nat.{ℕ, _+_, _-_, _%_, _<_}
 use native.Mathlib.Omega.{arith}
@@ -16,7 +16,7 @@ use Rattle.tickets.specs.Table as tickets
 use Rattle.logs.specs.Log as logs
 use Rattle.logs.specs.Fits as log-fits
 use Rattle.packets.specs.Words as packets
-use Rattle.packets.specs.Fits as packet-fits
+use Rattle.packets.specs.Fits.{fits-same}
 use Rattle.memory.specs.Places.{SN, TABLE, ROW, LOG, MEMORY}
 use Rattle.memory.specs.Numbers.{sn-set}
 use Rattle.memory.specs.View.{memory-view, log-changed, table-changed}
@@ -53,9 +53,6 @@ module _ (ws ys : List ℕ) (size : length ws ≡ MEMORY) (long : length ys ≡ 
       ∙ rw (sn-set ws size (m .sn) (m .receiver) (fits .receiver) (fits .sn))
 
 -- ---- the wire: a packet about a message of two chares, with a content that a word can hold
-pub about-fits : (m : Message) (c : Content) → m .sender < 13 → m .receiver < 13 → packets.fit-content c ≡ c → packets.fitted (about m c) ≡ about m c
-unfolding packets.fitted about
-about-fits m c a-in b-in e =
-    let a : m .sender < 16 = omega arith in
-    let b : m .receiver < 16 = omega arith in
-    rw (mod-eq-of-lt a, mod-eq-of-lt b, e)
+pub about-fits : (m : Message) (c : Content) → m .sender < 13 → m .receiver < 13 → m .sn < 65536 → packets.fit-content c ≡ c → packets.fitted (about m c) ≡ about m c
+unfolding about
+about-fits m c a-in b-in n-in e = fits-same (about m c) (record { sender = omega arith; receiver = omega arith; sn = n-in; content = e })

@@ -1,5 +1,5 @@
 -- Frame 10: the desk's message. From 7 on its questions are those of one send.
-use mathlib.Core.Path.{_≡_, refl, sym, _∙_}
+use mathlib.Core.Path.{_≡_, sym, _∙_}
 use mathlib.Core.Bool.{Bool, true, not, _&&_}
 use mathlib.Core.List.{List, [], _∷_, _++_}
 use Prim.Native.Nat.{ℕ, _<_}
@@ -13,7 +13,7 @@ use Rattle.protocol.specs.Frames.{between}
 use Rattle.protocol.specs.Parts.{State}
 use Rattle.protocol.specs.Questions.{inject-questions, is-chare, numbers-fit, window-admits, log-has-room, table-has-room, put-to-all}
 use Rattle.protocol.specs.Sending.{send, send-all}
-use Rattle.protocol.specs.Step.{Outcome, judged}
+use Rattle.protocol.specs.Step.{Outcome}
 use Rattle.head.specs.Head.{job-of, lost-of}
 use Rattle.store.specs.View.{view, tried, Framed}
 use Rattle.sends.specs.Framing.{refused, accepted}

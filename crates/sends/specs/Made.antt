@@ -1,7 +1,7 @@
 -- The sends of a chare, judged and made where the store stands.
 use mathlib.Core.Path.{_≡_, refl, sym, _∙_}
 use mathlib.Core.List.{List, [], _∷_}
-use Prim.Native.Nat.{ℕ, _<_}
+use Prim.Native.Nat.{ℕ}
 use borrow.Author.Tests.{eq-eqb, ne-eqb, le-leb}
 use lib.ListN.{length}
 use Rattle.lists.specs.Questions.{first-no}
@@ -30,7 +30,7 @@ pub record Made (before after : List ℕ) (a : ℕ) (l : List ℕ) (v h n : ℕ)
   pub made : n ≡ 0 → view after ≡ send-all (view before) a l v h
 
 -- a send that can be made, made
-pub made-one : {s : State} {a b v h : ℕ} {k : Ticket} → Sendable s a b v h k → to-sent s (message-after a b (s .live a .sn b) v h) k ≡ send s a b v h
+made-one : {s : State} {a b v h : ℕ} {k : Ticket} → Sendable s a b v h k → to-sent s (message-after a b (s .live a .sn b) v h) k ≡ send s a b v h
 unfolding next-message
 made-one {s} {a} {b} {v} {h} {k} q =
     rw (sn-room (s .live a .sn b) (sn-low q)) (room-sent s (next-message s a b v h) k (ready q) ∙ sym (is-sent q))

@@ -104,7 +104,7 @@ module _ (s : State) (m : Message) (k : Ticket) (next : m .sn ≡ sn-next (s .li
       )
       (same-receiver (is-local (s .job) (m .sender) (m .receiver)) (y .table) (y .top) (y .mark (m .sender)) (m .sender) (y .height) m k new)
 
-  pub second-plan : (d : ℕ) → plan-of (sent s m k) (m .sender) d ≡ plan-after s (m .sender) (m .receiver) k d
+  second-plan : (d : ℕ) → plan-of (sent s m k) (m .sender) d ≡ plan-after s (m .sender) (m .receiver) k d
   second-plan d = elim (eq? d (m .receiver)) [ inl e ↦ rw e to-same | inr n ↦ to-other d n ]
 
 -- after a first send from a to b

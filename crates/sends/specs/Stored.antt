@@ -74,7 +74,7 @@ module _ (xs : List ℕ) (size : length xs ≡ STORE) (m : Message) (k : Ticket)
     view2 = live-changed x1 size1 (m .sender) a-in zs lz (λ y. to-log y m t) logs ∙ rw (t-is, view1)
 
     module _ (ws : List ℕ) (lw : length ws ≡ PACKETS) (packs : packets ws ≡ to-wire (packets (part WIRE PACKETS x2)) m k) where
-      pub sent-put : view (put WIRE PACKETS x2 ws) ≡ to-sent (view xs) m k
+      sent-put : view (put WIRE PACKETS x2 ws) ≡ to-sent (view xs) m k
       unfolding to-sent
       sent-put = wire-put x2 size2 ws lw ∙ rw (packs, ← wire-at x2, view2)
 

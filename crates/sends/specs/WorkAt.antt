@@ -1,5 +1,5 @@
 -- An entry worked where the store stands: the four words written, the sends made; or the four words written back.
-use mathlib.Core.Path.{_≡_, refl, sym, ap, _∙_}
+use mathlib.Core.Path.{_≡_, sym, ap, _∙_}
 use mathlib.Core.List.{List}
 use mathlib.Core.Option.{some}
 use Prim.Native.Nat.{ℕ, _-_, _+_, _%_, _<_, _≤_}

@@ -5,8 +5,7 @@ use mathlib.Core.Option.{Option, some, none}
 use Prim.Native.Nat.{ℕ, _+_, _<_}
 use native.Mathlib.Omega.{arith}
 use borrow.Author.Tests.{eqb-true}
-use lib.ListN.{length}
-use Rattle.lists.specs.Lists.{find, find-some}
+use Rattle.lists.specs.Lists.{find-some}
 use Rattle.lists.specs.Questions.{first-no, first-no-yes}
 use Rattle.protocol.specs.declared.Answer.{Answer}
 use Rattle.protocol.specs.declared.Answer.the-variants.{Refused}
@@ -18,7 +17,6 @@ use Rattle.protocol.specs.Working.{next-entry}
 use Rattle.words.specs.Part.{part}
 use Rattle.head.specs.Head.{job-of, lost-of, status-of, chare-asked}
 use Rattle.tickets.specs.Fits.{InRange, found-fits}
-use Rattle.tickets.specs.Table.{entries}
 use Rattle.memory.specs.Places.{TABLE, ROW, MEMORY}
 use Rattle.memory.specs.View.{memory-view, table-part}
 use Rattle.store.specs.Places.{live-from}

@@ -20,7 +20,7 @@ fn refused(x: Numbers, n: u8) -> Worked
     }
 }
 
-// Question 6: received and noted. The sender's test is the rule book's, of a time when there were marks for 13 only.
+// Question 6: received and noted. The rule book also asks for a sender of at most 12.
 fn is_ready(e: Entry) -> bool
     ensures { λ r. ⌜ r ≡ is-ready e ⌝ }
 {
@@ -52,8 +52,5 @@ pub fn work_entry(x: Numbers, e: Entry) -> Worked
         mark: d.mark as u64,
         window: d.window,
     };
-    Worked {
-        answer: 0,
-        numbers,
-    }
+    Worked { answer: 0, numbers }
 }

@@ -21,9 +21,8 @@ send-one-requires c κs =
     let i = c .before in
     let j = i .before in
     let a = j .before .before .before .args in
-    (search needs, (omega arith,
-    index (a .s .now) (a .chare) (a .value) (a .hops) _ (j .judge-inject .ensures) (i .if1 .left),
-    hops-in (a .s .now) (a .chare) (a .value) (a .hops) _ (j .judge-inject .ensures) (i .if1 .left)))
+    let h = index (a .s .now) (a .chare) (a .value) (a .hops) _ (j .judge-inject .ensures) (i .if1 .left) in
+    (search needs, (omega arith, h, hops-in (a .s .now) (a .chare) (a .value) (a .hops) _ (j .judge-inject .ensures) (i .if1 .left)))
 
 same-length-2 : tie.Need-same-length-2
 same-length-2 c = search needs

@@ -1,7 +1,5 @@
 use Rattle.sends.specs.Reading.{span}
 use Rattle.store.specs.ViewLaws.{live-at}
-use native.Mathlib.Omega.{arith}
-use mathlib.Core.Path.{_≡_, _∙_}
 use borrow.Author.Needs.{needs}
 use Rattle.sends.proofs.logged.Statement.{statement}
 use Rattle.sends.proofs.logged.Tie as tie

@@ -1,7 +1,6 @@
 use Rattle.sends.specs.Reading.{span}
 use Rattle.sends.specs.Stored.{sent-at}
 use native.Mathlib.Omega.{arith}
-use mathlib.Core.Path.{_≡_, sym, _∙_}
 use borrow.Author.Needs.{needs}
 use Rattle.sends.proofs.send.Statement.{statement}
 use Rattle.sends.proofs.send.Tie as tie

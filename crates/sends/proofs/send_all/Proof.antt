@@ -3,7 +3,7 @@ use Rattle.sends.specs.Reading.{job-at}
 use Rattle.store.specs.View.{view}
 use Rattle.head.specs.Head.{job-of}
 use Prim.Native.Nat.{_-_}
-use mathlib.Core.Path.{_≡_, sym, _∙_}
+use mathlib.Core.Path.{sym, _∙_}
 use borrow.Author.Needs.{needs}
 use Rattle.sends.proofs.send_all.Statement.{statement}
 use Rattle.sends.proofs.send_all.Tie as tie

@@ -1,5 +1,4 @@
 use Rattle.sends.specs.Made.{one-refused, one-made}
-use mathlib.Core.Path.{_≡_}
 use borrow.Author.Needs.{needs}
 use Rattle.sends.proofs.send_one.Statement.{statement}
 use Rattle.sends.proofs.send_one.Tie as tie

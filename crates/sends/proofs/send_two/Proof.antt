@@ -1,5 +1,4 @@
 use Rattle.sends.specs.Made.{two-refused, two-made}
-use mathlib.Core.Path.{_≡_}
 use borrow.Author.Needs.{needs}
 use Rattle.sends.proofs.send_two.Statement.{statement}
 use Rattle.sends.proofs.send_two.Tie as tie

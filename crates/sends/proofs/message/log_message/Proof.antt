@@ -2,7 +2,7 @@ use lib.ListN.{length, set}
 use Prim.Native.Nat.{_+_, _≤_}
 use Rattle.words.specs.Part.{put-length}
 use Rattle.memory.specs.Places.{SN, LOG, ROW}
-use mathlib.Core.Path.{_≡_, _∙_}
+use mathlib.Core.Path.{_∙_}
 use Rattle.sends.specs.InMemory.{logged-put}
 use native.Mathlib.Omega.{arith}
 use lib.ListN.{length-set}

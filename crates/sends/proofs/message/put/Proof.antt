@@ -45,7 +45,7 @@ returns c =
     let st = t .before .before .before in
     let a = st .args in
     let n : length (a .ws .now) - 1 ≡ 128 = omega (arith, st .pre .0) in
-    rw (t .enum-told .given .1) (j .join .ensures ∙ rw (n, j .before .about .ensures, about-fits (a .m) Ask (st .pre .1 .0) (st .pre .1 .1) refl))
+    rw (t .enum-told .given .1) (j .join .ensures ∙ rw (n, j .before .about .ensures, about-fits (a .m) Ask (st .pre .1 .0) (st .pre .1 .1) (search needs) refl))
 
 returns-2 : tie.Need-returns-2
 returns-2 c = unfold to-wire in rw (c .enum-told2 .given .1)
@@ -61,7 +61,7 @@ returns-3 c =
     let st = t .before .before .before in
     let a = st .args in
     let n : length (a .ws .now) - 1 ≡ 128 = omega (arith, st .pre .0) in
-    rw (t .k .given .1) (j .join2 .ensures ∙ rw (n, j .before .about2 .ensures, about-fits (a .m) (Note _) (st .pre .1 .0) (st .pre .1 .1) refl))
+    rw (t .k .given .1) (j .join2 .ensures ∙ rw (n, j .before .about2 .ensures, about-fits (a .m) (Note _) (st .pre .1 .0) (st .pre .1 .1) (search needs) refl))
 
 returns-4 : tie.Need-returns-4
 returns-4 c = unfold to-wire in rw (c .enum-told3 .given .1)

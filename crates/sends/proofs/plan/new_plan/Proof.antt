@@ -7,7 +7,6 @@ use Rattle.tickets.specs.Table.{entries}
 use Rattle.protocol.specs.Tickets.{next-tn}
 use borrow.Author.Tests.{le-leb, lt-leb}
 use native.Mathlib.Omega.{arith}
-use mathlib.Core.Path.{_≡_, _∙_}
 use borrow.Author.Needs.{needs}
 use Rattle.sends.proofs.plan.new_plan.Statement.{statement}
 use Rattle.sends.proofs.plan.new_plan.Tie as tie

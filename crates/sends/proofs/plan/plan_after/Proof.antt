@@ -1,7 +1,6 @@
 use Rattle.sends.specs.Reading.{span}
 use Rattle.sends.specs.Planned.{plan-next-at}
-use native.Mathlib.Omega.{arith}
-use mathlib.Core.Path.{_≡_, _∙_}
+use mathlib.Core.Path.{_∙_}
 use borrow.Author.Needs.{needs}
 use Rattle.sends.proofs.plan.plan_after.Statement.{statement}
 use Rattle.sends.proofs.plan.plan_after.Tie as tie

@@ -1,7 +1,5 @@
 use Rattle.sends.specs.Reading.{span}
 use Rattle.sends.specs.Planned.{plan-at}
-use native.Mathlib.Omega.{arith}
-use mathlib.Core.Path.{_≡_}
 use borrow.Author.Needs.{needs}
 use Rattle.sends.proofs.plan.plan_of.Statement.{statement}
 use Rattle.sends.proofs.plan.plan_of.Tie as tie

@@ -1,10 +1,9 @@
 use Rattle.sends.specs.Plan.{plan-for, local-plan}
 use Rattle.sends.specs.Room.{extra-top}
-use Rattle.memory.specs.View.{memory-view, table-part}
+use Rattle.memory.specs.View.{table-part}
 use Rattle.tickets.specs.Table.{found-entry}
 use borrow.Author.Tests.{not-true, not-false, lt-ltb, le-ltb}
 use native.Mathlib.Omega.{arith}
-use mathlib.Core.Path.{_≡_, _∙_}
 use borrow.Author.Needs.{needs}
 use Rattle.sends.proofs.plan.plan_on.Statement.{statement}
 use Rattle.sends.proofs.plan.plan_on.Tie as tie

@@ -2,7 +2,6 @@ use Rattle.sends.specs.InMemory.{ticket-found, ticket-new}
 use Rattle.sends.specs.Ticket.{to-table}
 use Rattle.protocol.specs.Sending.{local-entry}
 use native.Mathlib.Omega.{arith}
-use mathlib.Core.Path.{_≡_, sym, ap, _∙_}
 use borrow.Author.Needs.{needs}
 use Rattle.sends.proofs.ticket.take_ticket.Statement.{statement}
 use Rattle.sends.proofs.ticket.take_ticket.Tie as tie
