@@ -1,0 +1,34 @@
+-- A memory whose words are all 0 is blank.
+use mathlib.Core.Path.{_≡_, refl, sym, ap, _∙_, fun-ext}
+use mathlib.Core.List.{List, [], map}
+use Prim.Native.Nat.{ℕ, _+_, _≤_, _%_}
+use native.Mathlib.Omega.{arith}
+use lib.ListN.{length, getD, replicate, List·getD-map}
+use Rattle.arrays.specs.ArrayMap.{map-blank}
+use Rattle.protocol.specs.Parts.{blank}
+use Rattle.window.specs.Bits.{bits}
+use Rattle.window.specs.BitLaws.{no-bits}
+use Rattle.words.specs.Part.{part, part-length}
+use Rattle.words.specs.Rows.{row}
+use Rattle.words.specs.Zeros.{zeros, zero-at, part-zeros, row-zeros}
+use Rattle.memory.specs.Places.{NUMBERS, SN, MARK, WINDOW, TABLE, LOG, ROW, MEMORY}
+use Rattle.memory.specs.View.{memory-view}
+use Rattle.tickets.specs.Table as tickets
+use Rattle.logs.specs.Log as logs
+
+zeros-blank : memory-view (zeros MEMORY) ≡ blank
+unfolding memory-view blank tickets.entries logs.entries row
+zeros-blank = λ i. record {
+  state = 0;
+  height = 0;
+  sn = map-blank 0 16 i;
+  mark = map-blank 0 16 i;
+  window = (ap (λ f s. bits (f s)) (map-blank 0 16) ∙ ap (λ b (s : ℕ). b) no-bits) i;
+  top = 0;
+  table = [];
+  log = [];
+}
+
+-- a part of a store cleared
+pub cleared : (xs : List ℕ) (a : ℕ) (ys : List ℕ) → a + MEMORY ≤ length xs → ys ≡ replicate (length (part a MEMORY xs)) 0 → memory-view ys ≡ blank
+cleared xs a ys h e = rw (e, part-length a MEMORY xs h) zeros-blank
