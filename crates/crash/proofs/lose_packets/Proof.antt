@@ -1,3 +1,5 @@
+use Rattle.crash.specs.Whole.{wire-is}
+use native.Mathlib.Omega.{arith}
 use borrow.Author.Needs.{needs}
 use Rattle.crash.proofs.lose_packets.Statement.{statement}
 use Rattle.crash.proofs.lose_packets.Tie as tie
@@ -36,7 +38,11 @@ same-length c = search needs
 
 -- src/lib.rt:106:1
 returns : tie.Need-returns
-returns c = ?
+returns c =
+    let u = c .before .before in
+    let h = u .before .before .before in
+    let st = h .before .before .before in
+    wire-is (st .args .s .now) (h .copy .result) (u .after-crash .last .0) (st .args .p) (st .pre) (omega arith) (h .copy .ensures) (u .after-crash .ensures)
 
 pub lose-packets-spec : {M : Type 1} → statement M
 lose-packets-spec =
