@@ -13,7 +13,6 @@ use Rattle.protocol.specs.Crash.{kept-by, crash}
 use Rattle.words.specs.Part.{part, put}
 use Rattle.head.specs.Head.{job-of}
 use Rattle.memory.specs.Places.{MEMORY}
-use Rattle.memory.specs.View.{memory-view}
 use Rattle.store.specs.Places.{STORE, live-from, copy-from}
 use Rattle.store.specs.View.{view}
 use Rattle.store.specs.ViewLaws.{with-copy, live-put, copy-put}

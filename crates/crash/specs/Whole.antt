@@ -1,18 +1,15 @@
 -- The parts of a crash, put together, are the definition's; its questions as the code puts them; and what the frame leaves.
-use mathlib.Core.Path.{_≡_, refl, sym, ap, _∙_}
+use mathlib.Core.Path.{_≡_, refl, ap, _∙_}
 use mathlib.Core.Bool.{Bool, true, false, not}
-use mathlib.Core.Logic.{_≢_}
 use mathlib.Core.List.{List, [], _∷_}
 use Prim.Native.Nat.{ℕ, _+_, _<_, _≤_}
 use native.Mathlib.Omega.{arith}
 use lib.ListN.{length, set}
 use Rattle.lists.specs.Lists.{keep}
-use Rattle.lists.specs.Map.{upd}
 use Rattle.lists.specs.Questions.{first-no, asks}
 use Rattle.protocol.specs.declared.Answer.the-variants.{Accepted, Lost}
-use Rattle.protocol.specs.declared.Status.the-variants.{Down}
 use Rattle.protocol.specs.Frames.{between}
-use Rattle.protocol.specs.Parts.{State, up, with-lost, with-status, with-live, with-copies, with-wire}
+use Rattle.protocol.specs.Parts.{State, up, with-lost, with-live, with-copies, with-wire}
 use Rattle.protocol.specs.Crash.{has-cover, survives, crash}
 use Rattle.protocol.specs.Questions.{crash-questions, is-machine}
 use Rattle.protocol.specs.Step.{Outcome, judged}
@@ -22,7 +19,7 @@ use Rattle.head.specs.Kept.{head-part}
 use Rattle.packets.specs.Words.{packets}
 use Rattle.store.specs.Places.{STORE, WIRE, PACKETS}
 use Rattle.store.specs.View.{view, outcome, Framed}
-use Rattle.store.specs.ViewLaws.{wire-at, wire-put, status-set, lost-set}
+use Rattle.store.specs.ViewLaws.{wire-put, status-set, lost-set}
 use Rattle.store.specs.Framing.{answered, machine-in}
 
 -- with cover, or without; machines settle later

@@ -129,7 +129,12 @@ fn judge(s: &[u64], p: u8) -> u8
     requires { ⌜ length (now s) ≡ STORE ⌝ }
     ensures { λ r. ⌜ r ≡ first-no 2 (crash-questions (view (now (s .entry))) p) ⌝ }
 {
-    head::first_no(head::is_set(s), head::is_machine(s, p), head::is_lost(s), head::is_up(s, p))
+    head::first_no(
+        head::is_set(s),
+        head::is_machine(s, p),
+        head::is_lost(s),
+        head::is_up(s, p),
+    )
 }
 
 pub fn crash(s: &mut [u64], p: u8) -> Answer

@@ -1,18 +1,15 @@
-use Rattle.crash.specs.Cover.{all-normal, each-machine, no-cover, cover-held}
-use Rattle.store.specs.View.{view}
+-- `crash::has_cover` meets its contract: the machines before q are normal, so the answer is that for the rest.
+use mathlib.Core.Path.{_≡_, sym, _∙_}
+use Prim.Native.Nat.{_-_, _≤_}
+use native.Mathlib.Omega.{arith}
+use borrow.Author.Tests.{not-true, not-false}
+use borrow.Author.Needs.{needs}
 use Rattle.layout.specs.Loops.{each, each-hit, each-miss, each-end}
 use Rattle.protocol.specs.Crash.{is-normal}
-use borrow.Author.Tests.{not-true, not-false}
-use native.Mathlib.Omega.{arith}
-use Prim.Native.Nat.{_-_, _≤_}
-use mathlib.Core.Path.{_≡_, sym, _∙_}
-use borrow.Author.Needs.{needs}
+use Rattle.store.specs.View.{view}
+use Rattle.crash.specs.Cover.{all-normal, each-machine, no-cover, cover-held}
 use Rattle.crash.proofs.has_cover.Statement.{statement}
 use Rattle.crash.proofs.has_cover.Tie as tie
-use Rattle.crash.proofs.has_cover.Reads as reads
-use Rattle.crash.proofs.has_cover.Lts as lts
-use Rattle.crash.proofs.is_normal.Reads as is-normal-reads
-use Rattle.head.proofs.is_held.Reads as is-held-reads
 
 abbrev Inv-loop : tie.InvT-loop
 Inv-loop s p q₀ q = (1 ≤ q) × (q ≤ 7) × (all-normal (view s) ≡ each (is-normal (view s)) (7 - q) q)
@@ -20,39 +17,31 @@ Inv-loop s p q₀ q = (1 ≤ q) × (q ≤ 7) × (all-normal (view s) ≡ each (i
 abbrev μ-loop : tie.MeasureT-loop
 μ-loop s p q₀ q = 7 - q
 
--- src/lib.rt:43:5
 loop-holds : tie.Need-loop-holds Inv-loop μ-loop
 loop-holds c = (search needs, search needs, each-machine _)
 
--- src/lib.rt:44:13
 is-normal-requires : tie.Need-is-normal-requires Inv-loop μ-loop
 is-normal-requires c κs = search needs
 
--- src/lib.rt:45:13
 returns : tie.Need-returns Inv-loop μ-loop
 returns c =
     let l = c .before .before .before .loop in
     no-cover _ _ (each-miss _ 7 (l .q) _ (l .inv .2) (omega arith) (sym (c .before .is-normal .ensures) ∙ not-true _ (c .if1 .taken)))
 
--- src/lib.rt:43:9
 add-q : tie.Need-add-q Inv-loop μ-loop
 add-q c = search needs
 
--- src/lib.rt:43:5
 loop-less : tie.Need-loop-less Inv-loop μ-loop
 loop-less c = search needs
 
--- src/lib.rt:43:5
 loop-again : tie.Need-loop-again Inv-loop μ-loop
 loop-again c =
     let l = c .before .before .before .loop in
     (search needs, search needs, each-hit _ 7 (l .q) _ (l .inv .2) (omega arith) (sym (c .before .is-normal .ensures) ∙ not-false _ (c .if1 .left)))
 
--- src/lib.rt:48:5
 is-held-requires : tie.Need-is-held-requires Inv-loop μ-loop
 is-held-requires c κs = search needs
 
--- src/lib.rt:39:1
 returns-2 : tie.Need-returns-2 Inv-loop μ-loop
 returns-2 c =
     let l = c .before .before .loop in

@@ -1,40 +1,31 @@
-use Rattle.store.specs.View.{view}
+-- `crash::is_normal` meets its contract: status by status.
+use borrow.Author.Needs.{needs}
 use Rattle.protocol.specs.Crash.{is-normal}
 use Rattle.protocol.specs.Parts.{is-down, is-catching-up}
-use borrow.Author.Needs.{needs}
+use Rattle.store.specs.View.{view}
 use Rattle.crash.proofs.is_normal.Statement.{statement}
 use Rattle.crash.proofs.is_normal.Tie as tie
-use Rattle.crash.proofs.is_normal.Reads as reads
-use Rattle.crash.proofs.is_normal.Lts as lts
-use Rattle.head.proofs.status.Reads as status-reads
 
--- src/lib.rt:31:11
 status-requires : tie.Need-status-requires
 status-requires c κs = search needs
 
--- src/lib.rt:32:23
 enum-told : tie.Need-enum-told
 enum-told c = search needs
 
--- src/lib.rt:33:25
 enum-told-2 : tie.Need-enum-told-2
 enum-told-2 c = search needs
 
--- src/lib.rt:34:31
 enum-told-3 : tie.Need-enum-told-3
 enum-told-3 c = search needs
 
--- src/lib.rt:27:1
 returns : tie.Need-returns
 unfolding is-normal is-down is-catching-up view
 returns c = rw (← c .before .before .status .ensures, c .enum-told .given .1)
 
--- src/lib.rt:27:1
 returns-2 : tie.Need-returns-2
 unfolding is-normal is-down is-catching-up view
 returns-2 c = rw (← c .before .before .status .ensures, c .enum-told2 .given .1)
 
--- src/lib.rt:27:1
 returns-3 : tie.Need-returns-3
 unfolding is-normal is-down is-catching-up view
 returns-3 c = rw (← c .before .before .status .ensures, c .enum-told3 .given .1)

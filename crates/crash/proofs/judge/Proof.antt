@@ -1,36 +1,24 @@
-use Rattle.crash.specs.Whole.{asked}
+-- `crash::judge` meets its contract: each question by the function that answers it.
 use borrow.Author.Needs.{needs}
+use Rattle.crash.specs.Whole.{asked}
 use Rattle.crash.proofs.judge.Statement.{statement}
 use Rattle.crash.proofs.judge.Tie as tie
-use Rattle.crash.proofs.judge.Reads as reads
-use Rattle.crash.proofs.judge.Lts as lts
-use Rattle.head.proofs.first_no.Reads as first-no-reads
-use Rattle.head.proofs.is_lost.Reads as is-lost-reads
-use Rattle.head.proofs.is_machine.Reads as is-machine-reads
-use Rattle.head.proofs.is_set.Reads as is-set-reads
-use Rattle.head.proofs.is_up.Reads as is-up-reads
 
--- src/lib.rt:132:20
 is-set-requires : tie.Need-is-set-requires
 is-set-requires c κs = search needs
 
--- src/lib.rt:132:37
 is-machine-requires : tie.Need-is-machine-requires
 is-machine-requires c κs = search needs
 
--- src/lib.rt:132:61
 is-lost-requires : tie.Need-is-lost-requires
 is-lost-requires c κs = search needs
 
--- src/lib.rt:132:79
 is-up-requires : tie.Need-is-up-requires
 is-up-requires c κs = search needs
 
--- src/lib.rt:132:5
 first-no-requires : tie.Need-first-no-requires
 first-no-requires c κs = search needs
 
--- src/lib.rt:128:1
 returns : tie.Need-returns
 returns c =
     let u = c .before in

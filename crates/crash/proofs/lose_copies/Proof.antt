@@ -1,19 +1,15 @@
-use Rattle.crash.specs.Memories.{copy-to, copy-none, copy-miss, copy-hit, copy-end}
-use Rattle.store.specs.Places.{STORE, COPY}
-use Rattle.memory.specs.Places.{MEMORY}
-use Rattle.store.specs.View.{view}
-use lib.ListN.{length}
-use native.Mathlib.Omega.{arith}
+-- `crash::lose_copies` meets its contract: the chares below n are done.
+use mathlib.Core.Path.{_≡_}
 use Prim.Native.Nat.{_+_, _-_, _*_, _≤_}
-use mathlib.Core.Path.{_≡_, refl, sym, _∙_}
+use native.Mathlib.Omega.{arith}
 use borrow.Author.Needs.{needs}
+use lib.ListN.{length}
+use Rattle.memory.specs.Places.{MEMORY}
+use Rattle.store.specs.Places.{STORE, COPY}
+use Rattle.store.specs.View.{view}
+use Rattle.crash.specs.Memories.{copy-to, copy-none, copy-miss, copy-hit, copy-end}
 use Rattle.crash.proofs.lose_copies.Statement.{statement}
 use Rattle.crash.proofs.lose_copies.Tie as tie
-use Rattle.crash.proofs.lose_copies.Reads as reads
-use Rattle.crash.proofs.lose_copies.Lts as lts
-use Rattle.head.proofs.buddy.Reads as buddy-reads
-use Rattle.head.proofs.home.Reads as home-reads
-use Rattle.words.proofs.clear.Reads as clear-reads
 
 abbrev Inv-loop : tie.InvT-loop
 Inv-loop s₀ p n₀ s n = (n ≤ 13) × (length s ≡ STORE) × (view s ≡ copy-to (view s₀) p n)
@@ -21,63 +17,48 @@ Inv-loop s₀ p n₀ s n = (n ≤ 13) × (length s ≡ STORE) × (view s ≡ cop
 abbrev μ-loop : tie.MeasureT-loop
 μ-loop s₀ p n₀ s n = 13 - n
 
--- src/lib.rt:74:5
 loop-holds : tie.Need-loop-holds Inv-loop μ-loop
 loop-holds c = (omega arith, c .before .pre, copy-none _ _)
 
--- src/lib.rt:76:9
 add-n : tie.Need-add-n Inv-loop μ-loop
 add-n c = search needs
 
--- src/lib.rt:77:13
 home-requires : tie.Need-home-requires Inv-loop μ-loop
 home-requires c κs = search needs
 
--- src/lib.rt:78:12
 buddy-requires : tie.Need-buddy-requires Inv-loop μ-loop
 buddy-requires c κs = search needs
 
--- src/lib.rt:79:29
 cast-a : tie.Need-cast-a Inv-loop μ-loop
 cast-a c = search needs
 
--- src/lib.rt:79:28
 mul-a : tie.Need-mul-a Inv-loop μ-loop
 mul-a c = search needs
 
--- src/lib.rt:79:21
 add-a : tie.Need-add-a Inv-loop μ-loop
 add-a c = search needs
 
--- src/lib.rt:80:21
 add-e : tie.Need-add-e Inv-loop μ-loop
 add-e c = search needs
 
--- src/lib.rt:81:26
 mul-clear : tie.Need-mul-clear Inv-loop μ-loop
 mul-clear c = search needs
 
--- src/lib.rt:81:26
 sub-clear : tie.Need-sub-clear Inv-loop μ-loop
 sub-clear c = search needs
 
--- src/lib.rt:81:26
 part-clear-start : tie.Need-part-clear-start Inv-loop μ-loop
 part-clear-start c = search needs
 
--- src/lib.rt:81:26
 part-clear-end : tie.Need-part-clear-end Inv-loop μ-loop
 part-clear-end c = search needs
 
--- src/lib.rt:81:13
 clear-requires : tie.Need-clear-requires Inv-loop μ-loop
 clear-requires c κs = search needs
 
--- src/lib.rt:74:5
 loop-less : tie.Need-loop-less Inv-loop μ-loop
 loop-less c = search needs
 
--- src/lib.rt:74:5
 loop-again : tie.Need-loop-again Inv-loop μ-loop
 loop-again c =
     let u = c .before .before in
@@ -87,11 +68,9 @@ loop-again c =
     let e : (COPY + l .n * MEMORY + MEMORY) - (COPY + l .n * MEMORY) ≡ MEMORY = omega arith in
     (omega arith, omega (arith, l .inv .1), rw e (copy-hit _ _ (l .n) (l .s) (l .inv .2) _ _ (h .home .ensures .0) (b .buddy .ensures .0) (u .before .before .if1 .taken) (l .inv .1) (omega arith) (u .clear .last .0) (omega arith) (rw e at (u .clear .ensures))))
 
--- src/lib.rt:74:5
 loop-less-2 : tie.Need-loop-less-2 Inv-loop μ-loop
 loop-less-2 c = search needs
 
--- src/lib.rt:74:5
 loop-again-2 : tie.Need-loop-again-2 Inv-loop μ-loop
 loop-again-2 c =
     let b = c .before in
@@ -99,11 +78,9 @@ loop-again-2 c =
     let l = h .before .before .before .loop in
     (omega arith, l .inv .1, copy-miss _ _ (l .n) (l .s) (l .inv .2) _ _ (h .home .ensures .0) (b .buddy .ensures .0) (c .if1 .left))
 
--- src/lib.rt:69:1
 same-length : tie.Need-same-length Inv-loop μ-loop
 same-length c = search needs
 
--- src/lib.rt:69:1
 returns : tie.Need-returns Inv-loop μ-loop
 returns c =
     let l = c .before .loop in

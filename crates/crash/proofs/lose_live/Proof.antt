@@ -1,18 +1,15 @@
-use Rattle.crash.specs.Memories.{live-to, live-none, live-miss, live-hit, live-end}
-use Rattle.store.specs.Places.{STORE, LIVE}
-use Rattle.memory.specs.Places.{MEMORY}
-use Rattle.store.specs.View.{view}
-use lib.ListN.{length}
-use native.Mathlib.Omega.{arith}
+-- `crash::lose_live` meets its contract: the chares below n are done.
+use mathlib.Core.Path.{_≡_, sym, _∙_}
 use Prim.Native.Nat.{_+_, _-_, _*_, _≤_}
-use mathlib.Core.Path.{_≡_, refl, sym, _∙_}
+use native.Mathlib.Omega.{arith}
 use borrow.Author.Needs.{needs}
+use lib.ListN.{length}
+use Rattle.memory.specs.Places.{MEMORY}
+use Rattle.store.specs.Places.{STORE, LIVE}
+use Rattle.store.specs.View.{view}
+use Rattle.crash.specs.Memories.{live-to, live-none, live-miss, live-hit, live-end}
 use Rattle.crash.proofs.lose_live.Statement.{statement}
 use Rattle.crash.proofs.lose_live.Tie as tie
-use Rattle.crash.proofs.lose_live.Reads as reads
-use Rattle.crash.proofs.lose_live.Lts as lts
-use Rattle.head.proofs.on.Reads as on-reads
-use Rattle.words.proofs.clear.Reads as clear-reads
 
 abbrev Inv-loop : tie.InvT-loop
 Inv-loop s₀ p n₀ s n = (n ≤ 13) × (length s ≡ STORE) × (view s ≡ live-to (view s₀) p n)
@@ -20,59 +17,45 @@ Inv-loop s₀ p n₀ s n = (n ≤ 13) × (length s ≡ STORE) × (view s ≡ liv
 abbrev μ-loop : tie.MeasureT-loop
 μ-loop s₀ p n₀ s n = 13 - n
 
--- src/lib.rt:57:5
 loop-holds : tie.Need-loop-holds Inv-loop μ-loop
 loop-holds c = (omega arith, c .before .pre, live-none _ _)
 
--- src/lib.rt:59:9
 add-n : tie.Need-add-n Inv-loop μ-loop
 add-n c = search needs
 
--- src/lib.rt:60:12
 on-requires : tie.Need-on-requires Inv-loop μ-loop
 on-requires c κs = search needs
 
--- src/lib.rt:61:29
 cast-a : tie.Need-cast-a Inv-loop μ-loop
 cast-a c = search needs
 
--- src/lib.rt:61:28
 mul-a : tie.Need-mul-a Inv-loop μ-loop
 mul-a c = search needs
 
--- src/lib.rt:61:21
 add-a : tie.Need-add-a Inv-loop μ-loop
 add-a c = search needs
 
--- src/lib.rt:62:21
 add-e : tie.Need-add-e Inv-loop μ-loop
 add-e c = search needs
 
--- src/lib.rt:63:26
 mul-clear : tie.Need-mul-clear Inv-loop μ-loop
 mul-clear c = search needs
 
--- src/lib.rt:63:26
 sub-clear : tie.Need-sub-clear Inv-loop μ-loop
 sub-clear c = search needs
 
--- src/lib.rt:63:26
 part-clear-start : tie.Need-part-clear-start Inv-loop μ-loop
 part-clear-start c = search needs
 
--- src/lib.rt:63:26
 part-clear-end : tie.Need-part-clear-end Inv-loop μ-loop
 part-clear-end c = search needs
 
--- src/lib.rt:63:13
 clear-requires : tie.Need-clear-requires Inv-loop μ-loop
 clear-requires c κs = search needs
 
--- src/lib.rt:57:5
 loop-less : tie.Need-loop-less Inv-loop μ-loop
 loop-less c = search needs
 
--- src/lib.rt:57:5
 loop-again : tie.Need-loop-again Inv-loop μ-loop
 loop-again c =
     let u = c .before .before in
@@ -81,22 +64,18 @@ loop-again c =
     let e : (LIVE + l .n * MEMORY + MEMORY) - (LIVE + l .n * MEMORY) ≡ MEMORY = omega arith in
     (omega arith, omega (arith, l .inv .1), rw e (live-hit _ _ (l .n) (l .s) (l .inv .2) (sym (o .on .ensures) ∙ u .before .before .if1 .taken) (l .inv .1) (omega arith) (u .clear .last .0) (omega arith) (rw e at (u .clear .ensures))))
 
--- src/lib.rt:57:5
 loop-less-2 : tie.Need-loop-less-2 Inv-loop μ-loop
 loop-less-2 c = search needs
 
--- src/lib.rt:57:5
 loop-again-2 : tie.Need-loop-again-2 Inv-loop μ-loop
 loop-again-2 c =
     let o = c .before in
     let l = o .before .before .before .loop in
     (omega arith, l .inv .1, live-miss _ _ (l .n) (l .s) (l .inv .2) (sym (o .on .ensures) ∙ c .if1 .left))
 
--- src/lib.rt:52:1
 same-length : tie.Need-same-length Inv-loop μ-loop
 same-length c = search needs
 
--- src/lib.rt:52:1
 returns : tie.Need-returns Inv-loop μ-loop
 returns c =
     let l = c .before .loop in

@@ -1,42 +1,31 @@
-use Rattle.crash.specs.Whole.{wire-is}
+-- `crash::lose_packets` meets its contract: the head is copied, then the wire is lent.
 use native.Mathlib.Omega.{arith}
 use borrow.Author.Needs.{needs}
+use Rattle.crash.specs.Whole.{wire-is}
 use Rattle.crash.proofs.lose_packets.Statement.{statement}
 use Rattle.crash.proofs.lose_packets.Tie as tie
-use Rattle.crash.proofs.lose_packets.Reads as reads
-use Rattle.crash.proofs.lose_packets.Lts as lts
-use Rattle.head.proofs.copy.Reads as copy-reads
-use Rattle.packets.proofs.after_crash.Reads as after-crash-reads
 
--- src/lib.rt:110:13
 copy-requires : tie.Need-copy-requires
 copy-requires c κs = search needs
 
--- src/lib.rt:111:26
 sub-after-crash : tie.Need-sub-after-crash
 sub-after-crash c = search needs
 
--- src/lib.rt:111:26
 part-after-crash-start : tie.Need-part-after-crash-start
 part-after-crash-start c = search needs
 
--- src/lib.rt:111:26
 part-after-crash-end : tie.Need-part-after-crash-end
 part-after-crash-end c = search needs
 
--- src/lib.rt:111:47
 slice-aggregate-after-crash : tie.Need-slice-aggregate-after-crash
 slice-aggregate-after-crash c = search needs
 
--- src/lib.rt:111:5
 after-crash-requires : tie.Need-after-crash-requires
 after-crash-requires c κs = search needs
 
--- src/lib.rt:106:1
 same-length : tie.Need-same-length
 same-length c = search needs
 
--- src/lib.rt:106:1
 returns : tie.Need-returns
 returns c =
     let u = c .before .before in
