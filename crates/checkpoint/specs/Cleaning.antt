@@ -13,7 +13,7 @@ use Rattle.memory.specs.View.{memory-view}
 use Rattle.store.specs.Places.{STORE, live-from}
 use Rattle.store.specs.View.{view}
 use Rattle.store.specs.ViewLaws.{live-changed}
-use Rattle.store.specs.Visits.{chosen, visited, visit-none, visit-here, visit-hit, visit-miss, visit-all, live-beyond}
+use Rattle.store.specs.Visits.{visited, visit-none, visit-here, visit-hit, visit-miss, visit-all, live-beyond}
 use Rattle.checkpoint.specs.Parts.{cleaned, clean-up}
 
 module _ (limit : ℕ → ℕ) (s : State) where

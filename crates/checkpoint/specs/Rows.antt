@@ -1,5 +1,5 @@
 -- A memory whose table is pruned, or whose log is cleaned: ys are the words of that row afterwards.
-use mathlib.Core.Path.{_≡_, ap, _∙_}
+use mathlib.Core.Path.{_≡_, _∙_}
 use mathlib.Core.List.{List, map}
 use Prim.Native.Nat.{ℕ}
 use lib.ListN.{length}

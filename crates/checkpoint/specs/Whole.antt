@@ -1,16 +1,13 @@
 -- The parts of a checkpoint, put together, are the definition's; and its questions as the code puts them.
-use mathlib.Core.Path.{_≡_, refl, sym, ap, _∙_, fun-ext}
-use mathlib.Core.Bool.{Bool, true, false, not, _&&_}
+use mathlib.Core.Path.{_≡_, refl, ap, _∙_}
+use mathlib.Core.Bool.{Bool, not, _&&_}
 use mathlib.Core.List.{List, [], _∷_}
 use Prim.Native.Nat.{ℕ, _≤_}
-use Rattle.lists.specs.Lists.{keep}
-use Rattle.lists.specs.Map.{upd}
 use Rattle.lists.specs.Questions.{first-no}
 use Rattle.protocol.specs.Frames.{between}
-use Rattle.protocol.specs.Parts.{State, up, with-copies, with-notes, with-live, with-log}
-use Rattle.protocol.specs.Checkpoint.{prune, fix-copy, stays, clean-log, clean-logs, checkpoint}
+use Rattle.protocol.specs.Parts.{State, up}
+use Rattle.protocol.specs.Checkpoint.{prune, fix-copy, clean-log, clean-logs, checkpoint}
 use Rattle.protocol.specs.Questions.{checkpoint-questions, is-machine}
-use Rattle.logs.specs.Log.{is-kept}
 use Rattle.logs.specs.CleanUp.{heights-on, stays-is-kept}
 use Rattle.head.specs.Head.{job-of, lost-of, status-of, runs}
 use Rattle.store.specs.View.{view}

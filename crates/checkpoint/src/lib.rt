@@ -128,7 +128,12 @@ fn judge(s: &[u64], p: u8) -> u8
     ensures { λ r. ⌜ r ≡ first-no 2 (checkpoint-questions (view (now (s .entry))) p) ⌝ }
 {
     let b = head::buddy(s, p);
-    head::first_no(head::is_set(s), head::is_machine(s, p), head::is_lost(s), both_up(s, p, b))
+    head::first_no(
+        head::is_set(s),
+        head::is_machine(s, p),
+        head::is_lost(s),
+        both_up(s, p, b),
+    )
 }
 
 pub fn checkpoint(s: &mut [u64], p: u8) -> Answer

@@ -1,5 +1,5 @@
 -- A loop through the chares, or the machines, of a store that changes some of them: w says which, f what they become, g is the map before.
-use mathlib.Core.Path.{_≡_, refl, sym, ap, _∙_, fun-ext}
+use mathlib.Core.Path.{_≡_, sym, _∙_, fun-ext}
 use mathlib.Core.Bool.{Bool, true, false, cond}
 use mathlib.Core.List.{List, []}
 use mathlib.Core.Logic.{_≢_, inl, inr}
@@ -12,7 +12,7 @@ use Rattle.lists.specs.Tests.{either, eq?, lt?}
 use Rattle.lists.specs.Map.{upd, upd-ind}
 use Rattle.arrays.specs.ArrayMap.{as-map}
 use Rattle.protocol.specs.declared.Note.{Note}
-use Rattle.protocol.specs.Parts.{Job, on, at-home, blank, with-copies}
+use Rattle.protocol.specs.Parts.{blank, with-copies}
 use Rattle.window.specs.BitLaws.{no-bits}
 use Rattle.words.specs.Part.{put}
 use Rattle.words.specs.Rows.{row}
@@ -75,11 +75,6 @@ module _ {A : Type 0} (w : ℕ → Bool) (f g : ℕ → A) where
     where
       past : (i : ℕ) → f i ≡ g i → chosen i ≡ g i
       past i q = unfold chosen in rw q (either (w i) (λ x. rw x) (λ x. rw x))
-
--- what the definitions do on machine p
-pub home-chosen : {A : Type 0} (j : Job) (p : ℕ) (h : ℕ → A → A) (g : ℕ → A) → at-home j p h g ≡ chosen (on j p) (λ c. h c (g c)) g
-unfolding at-home chosen
-home-chosen j p h g = refl
 
 -- ---- past the last there is nothing
 no-memory : memory-view [] ≡ blank

@@ -1,4 +1,4 @@
--- `both_up` asks for one, then for the other.
+-- `checkpoint::both_up` meets its contract: one, then the other.
 use mathlib.Core.Path.{sym, _∙_}
 use borrow.Author.Tests.{not-true, not-false}
 use borrow.Author.Needs.{needs}

@@ -1,28 +1,19 @@
-use Rattle.checkpoint.specs.Whole.{checkpoint-in, checkpoint-is}
-use Rattle.store.specs.Framing.{refused, accepted}
-use Rattle.store.specs.View.{view, tried}
-use Rattle.arrays.specs.ArrayMap.{as-map}
+-- `checkpoint::checkpoint` meets its contract: refused, or fixed, held and cleaned.
 use native.Mathlib.Omega.{arith}
 use borrow.Author.Needs.{needs}
+use Rattle.arrays.specs.ArrayMap.{as-map}
+use Rattle.store.specs.Framing.{refused, accepted}
+use Rattle.store.specs.View.{view, tried}
+use Rattle.checkpoint.specs.Whole.{checkpoint-in, checkpoint-is}
 use Rattle.checkpoint.proofs.checkpoint.Statement.{statement}
 use Rattle.checkpoint.proofs.checkpoint.Tie as tie
-use Rattle.checkpoint.proofs.checkpoint.Reads as reads
-use Rattle.checkpoint.proofs.checkpoint.Lts as lts
-use Rattle.checkpoint.proofs.clean.Reads as clean-reads
-use Rattle.checkpoint.proofs.fix.Reads as fix-reads
-use Rattle.checkpoint.proofs.hold.Reads as hold-reads
-use Rattle.checkpoint.proofs.judge.Reads as judge-reads
-use Rattle.checkpoint.proofs.limits.Reads as limits-reads
 
--- src/lib.rt:138:9
 judge-requires : tie.Need-judge-requires
 judge-requires c κs = search needs
 
--- src/lib.rt:140:9
 same-length : tie.Need-same-length
 same-length c = search needs
 
--- src/lib.rt:140:9
 returns : tie.Need-returns
 unfolding tried
 returns c =
@@ -30,11 +21,9 @@ returns c =
     let st = j .before .before .before in
     refused (st .args .s .now) _ _ (j .judge .ensures) _ (c .if1 .taken)
 
--- src/lib.rt:142:5
 fix-requires : tie.Need-fix-requires
 fix-requires c κs = search needs
 
--- src/lib.rt:143:5
 hold-requires : tie.Need-hold-requires
 hold-requires c κs =
     let x = c .before .before .before .before .before in
@@ -43,23 +32,18 @@ hold-requires c κs =
     let h = checkpoint-in (st .args .s .now) (st .args .p) (j .judge .result) (j .judge .ensures) (search needs) in
     (search needs, omega arith)
 
--- src/lib.rt:144:13
 limits-requires : tie.Need-limits-requires
 limits-requires c κs = search needs
 
--- src/lib.rt:145:14
 slice-aggregate-clean : tie.Need-slice-aggregate-clean
 slice-aggregate-clean c = search needs
 
--- src/lib.rt:145:5
 clean-requires : tie.Need-clean-requires
 clean-requires c κs = search needs
 
--- src/lib.rt:134:1
 same-length-2 : tie.Need-same-length-2
 same-length-2 c = search needs
 
--- src/lib.rt:134:1
 returns-2 : tie.Need-returns-2
 returns-2 c =
     let k = c .before .before in

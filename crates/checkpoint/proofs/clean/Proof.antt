@@ -1,20 +1,16 @@
-use Rattle.memory.specs.Places.{MEMORY}
-use Rattle.checkpoint.specs.Cleaning.{cleaned-to, clean-none, clean-miss, clean-hit, clean-end}
-use mathlib.Core.Path.{_≡_, refl, sym, ap, _∙_}
+-- `checkpoint::clean` meets its contract: the logs below n are cleaned.
+use mathlib.Core.Path.{_≡_, sym, _∙_}
 use Prim.Native.Nat.{_+_, _-_, _*_, _≤_}
 use native.Mathlib.Omega.{arith}
+use borrow.Author.Needs.{needs}
 use lib.ListN.{length}
 use Rattle.arrays.specs.ArrayMap.{as-map}
+use Rattle.memory.specs.Places.{MEMORY}
 use Rattle.store.specs.Places.{STORE, LIVE}
 use Rattle.store.specs.View.{view}
-use borrow.Author.Needs.{needs}
+use Rattle.checkpoint.specs.Cleaning.{cleaned-to, clean-none, clean-miss, clean-hit, clean-end}
 use Rattle.checkpoint.proofs.clean.Statement.{statement}
 use Rattle.checkpoint.proofs.clean.Tie as tie
-use Rattle.checkpoint.proofs.clean.Reads as reads
-use Rattle.checkpoint.proofs.clean.Lts as lts
-use Rattle.checkpoint.proofs.clean_log.Reads as clean-log-reads
-use Rattle.head.proofs.home.Reads as home-reads
-use Rattle.head.proofs.is_up.Reads as is-up-reads
 
 abbrev Inv-loop : tie.InvT-loop
 Inv-loop s₀ limits n₀ s n = (n ≤ 13) × (length s ≡ STORE) × (view s ≡ cleaned-to (as-map 0 limits) (view s₀) n)
@@ -22,63 +18,48 @@ Inv-loop s₀ limits n₀ s n = (n ≤ 13) × (length s ≡ STORE) × (view s �
 abbrev μ-loop : tie.MeasureT-loop
 μ-loop s₀ limits n₀ s n = 13 - n
 
--- src/lib.rt:86:5
 loop-holds : tie.Need-loop-holds Inv-loop μ-loop
 loop-holds c = (omega arith, c .before .before .pre, clean-none _ _)
 
--- src/lib.rt:88:9
 add-n : tie.Need-add-n Inv-loop μ-loop
 add-n c = search needs
 
--- src/lib.rt:89:13
 home-requires : tie.Need-home-requires Inv-loop μ-loop
 home-requires c κs = search needs
 
--- src/lib.rt:90:12
 is-up-requires : tie.Need-is-up-requires Inv-loop μ-loop
 is-up-requires c κs = search needs
 
--- src/lib.rt:91:29
 cast-a : tie.Need-cast-a Inv-loop μ-loop
 cast-a c = search needs
 
--- src/lib.rt:91:28
 mul-a : tie.Need-mul-a Inv-loop μ-loop
 mul-a c = search needs
 
--- src/lib.rt:91:21
 add-a : tie.Need-add-a Inv-loop μ-loop
 add-a c = search needs
 
--- src/lib.rt:92:21
 add-e : tie.Need-add-e Inv-loop μ-loop
 add-e c = search needs
 
--- src/lib.rt:93:23
 mul-clean-log : tie.Need-mul-clean-log Inv-loop μ-loop
 mul-clean-log c = search needs
 
--- src/lib.rt:93:23
 sub-clean-log : tie.Need-sub-clean-log Inv-loop μ-loop
 sub-clean-log c = search needs
 
--- src/lib.rt:93:23
 part-clean-log-start : tie.Need-part-clean-log-start Inv-loop μ-loop
 part-clean-log-start c = search needs
 
--- src/lib.rt:93:23
 part-clean-log-end : tie.Need-part-clean-log-end Inv-loop μ-loop
 part-clean-log-end c = search needs
 
--- src/lib.rt:93:13
 clean-log-requires : tie.Need-clean-log-requires Inv-loop μ-loop
 clean-log-requires c κs = search needs
 
--- src/lib.rt:86:5
 loop-less : tie.Need-loop-less Inv-loop μ-loop
 loop-less c = search needs
 
--- src/lib.rt:86:5
 loop-again : tie.Need-loop-again Inv-loop μ-loop
 loop-again c =
     let u = c .before .before in
@@ -88,11 +69,9 @@ loop-again c =
     let e : (LIVE + l .n * MEMORY + MEMORY) - (LIVE + l .n * MEMORY) ≡ MEMORY = omega arith in
     (omega arith, omega (arith, l .inv .1), rw e (clean-hit _ _ (l .n) (l .s) (l .inv .2) (h .home .result) (h .home .ensures .0) (sym (o .is-up .ensures) ∙ u .before .before .if1 .taken) (l .inv .1) (omega arith) (u .clean-log .last .0) (omega arith) (rw e at (u .clean-log .ensures))))
 
--- src/lib.rt:86:5
 loop-less-2 : tie.Need-loop-less-2 Inv-loop μ-loop
 loop-less-2 c = search needs
 
--- src/lib.rt:86:5
 loop-again-2 : tie.Need-loop-again-2 Inv-loop μ-loop
 loop-again-2 c =
     let o = c .before in
@@ -100,11 +79,9 @@ loop-again-2 c =
     let l = h .before .before .before .loop in
     (omega arith, l .inv .1, clean-miss _ _ (l .n) (l .s) (l .inv .2) (h .home .result) (h .home .ensures .0) (sym (o .is-up .ensures) ∙ c .if1 .left))
 
--- src/lib.rt:81:1
 same-length : tie.Need-same-length Inv-loop μ-loop
 same-length c = search needs
 
--- src/lib.rt:81:1
 returns : tie.Need-returns Inv-loop μ-loop
 returns c =
     let l = c .before .loop in

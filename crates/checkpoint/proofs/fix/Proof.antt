@@ -1,21 +1,16 @@
-use Rattle.memory.specs.Places.{MEMORY}
-use Rattle.store.specs.ViewLaws.{apart}
-use Rattle.checkpoint.specs.Fixing.{fixed-to, fix-none, fix-miss, fix-hit, fix-end}
-use mathlib.Core.Path.{_≡_, refl, sym, ap, _∙_}
+-- `checkpoint::fix` meets its contract: the chares below n are pruned and copied.
+use mathlib.Core.Path.{_≡_, sym, _∙_}
 use Prim.Native.Nat.{_+_, _-_, _*_, _≤_}
 use native.Mathlib.Omega.{arith}
+use borrow.Author.Needs.{needs}
 use lib.ListN.{length}
-use Rattle.arrays.specs.ArrayMap.{as-map}
+use Rattle.memory.specs.Places.{MEMORY}
+use Rattle.store.specs.ViewLaws.{apart}
 use Rattle.store.specs.Places.{STORE, LIVE}
 use Rattle.store.specs.View.{view}
-use borrow.Author.Needs.{needs}
+use Rattle.checkpoint.specs.Fixing.{fixed-to, fix-none, fix-miss, fix-hit, fix-end}
 use Rattle.checkpoint.proofs.fix.Statement.{statement}
 use Rattle.checkpoint.proofs.fix.Tie as tie
-use Rattle.checkpoint.proofs.fix.Reads as reads
-use Rattle.checkpoint.proofs.fix.Lts as lts
-use Rattle.checkpoint.proofs.prune.Reads as prune-reads
-use Rattle.head.proofs.on.Reads as on-reads
-use Rattle.words.proofs.copy.Reads as copy-reads
 
 abbrev Inv-loop : tie.InvT-loop
 Inv-loop s₀ p n₀ s n = (n ≤ 13) × (length s ≡ STORE) × (view s ≡ fixed-to (view s₀) p n)
@@ -23,77 +18,59 @@ Inv-loop s₀ p n₀ s n = (n ≤ 13) × (length s ≡ STORE) × (view s ≡ fix
 abbrev μ-loop : tie.MeasureT-loop
 μ-loop s₀ p n₀ s n = 13 - n
 
--- src/lib.rt:39:5
 loop-holds : tie.Need-loop-holds Inv-loop μ-loop
 loop-holds c = (omega arith, c .before .pre, fix-none _ _)
 
--- src/lib.rt:41:9
 add-n : tie.Need-add-n Inv-loop μ-loop
 add-n c = search needs
 
--- src/lib.rt:42:12
 on-requires : tie.Need-on-requires Inv-loop μ-loop
 on-requires c κs = search needs
 
--- src/lib.rt:43:29
 cast-a : tie.Need-cast-a Inv-loop μ-loop
 cast-a c = search needs
 
--- src/lib.rt:43:28
 mul-a : tie.Need-mul-a Inv-loop μ-loop
 mul-a c = search needs
 
--- src/lib.rt:43:21
 add-a : tie.Need-add-a Inv-loop μ-loop
 add-a c = search needs
 
--- src/lib.rt:44:21
 add-e : tie.Need-add-e Inv-loop μ-loop
 add-e c = search needs
 
--- src/lib.rt:45:19
 mul-prune : tie.Need-mul-prune Inv-loop μ-loop
 mul-prune c = search needs
 
--- src/lib.rt:45:19
 sub-prune : tie.Need-sub-prune Inv-loop μ-loop
 sub-prune c = search needs
 
--- src/lib.rt:45:19
 part-prune-start : tie.Need-part-prune-start Inv-loop μ-loop
 part-prune-start c = search needs
 
--- src/lib.rt:45:19
 part-prune-end : tie.Need-part-prune-end Inv-loop μ-loop
 part-prune-end c = search needs
 
--- src/lib.rt:45:13
 prune-requires : tie.Need-prune-requires Inv-loop μ-loop
 prune-requires c κs = search needs
 
--- src/lib.rt:46:39
 cast-copy : tie.Need-cast-copy Inv-loop μ-loop
 cast-copy c = search needs
 
--- src/lib.rt:46:38
 mul-copy : tie.Need-mul-copy Inv-loop μ-loop
 mul-copy c = search needs
 
--- src/lib.rt:46:31
 add-copy : tie.Need-add-copy Inv-loop μ-loop
 add-copy c = search needs
 
--- src/lib.rt:46:13
 copy-requires : tie.Need-copy-requires Inv-loop μ-loop
 copy-requires c κs =
     let l = c .before .before .before .before .before .before .before .before .before .loop in
     (omega (arith, l .inv .1), omega (arith, l .inv .1), apart _ (omega arith))
 
--- src/lib.rt:39:5
 loop-less : tie.Need-loop-less Inv-loop μ-loop
 loop-less c = search needs
 
--- src/lib.rt:39:5
 loop-again : tie.Need-loop-again Inv-loop μ-loop
 loop-again c =
     let k = c .before .before in
@@ -103,22 +80,18 @@ loop-again c =
     let e : (LIVE + l .n * MEMORY + MEMORY) - (LIVE + l .n * MEMORY) ≡ MEMORY = omega arith in
     (omega arith, omega (arith, l .inv .1), fix-hit _ _ (l .n) (l .s) (l .inv .2) (sym (o .on .ensures) ∙ u .before .before .if1 .taken) (l .inv .1) (omega arith) (u .prune .last .0) _ (omega arith) (rw e at (u .prune .ensures)) (rw e at (k .copy .ensures)))
 
--- src/lib.rt:39:5
 loop-less-2 : tie.Need-loop-less-2 Inv-loop μ-loop
 loop-less-2 c = search needs
 
--- src/lib.rt:39:5
 loop-again-2 : tie.Need-loop-again-2 Inv-loop μ-loop
 loop-again-2 c =
     let o = c .before in
     let l = o .before .before .before .loop in
     (omega arith, l .inv .1, fix-miss _ _ (l .n) (l .s) (l .inv .2) (sym (o .on .ensures) ∙ c .if1 .left))
 
--- src/lib.rt:34:1
 same-length : tie.Need-same-length Inv-loop μ-loop
 same-length c = search needs
 
--- src/lib.rt:34:1
 returns : tie.Need-returns Inv-loop μ-loop
 returns c =
     let l = c .before .loop in

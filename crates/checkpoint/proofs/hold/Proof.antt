@@ -1,63 +1,49 @@
-use Rattle.checkpoint.specs.Parts.{holding}
-use Rattle.store.specs.Visits.{held-length, held-put}
-use Rattle.store.specs.Places.{NOTES, NOTELIST}
-use lib.ListN.{length-set}
-use native.Mathlib.Omega.{arith}
-use Prim.Native.Nat.{_+_, _-_, _*_}
+-- `checkpoint::hold` meets its contract: one word of the head, then the notes.
 use mathlib.Core.List.{[]}
 use mathlib.Core.Path.{_≡_, sym, _∙_}
+use Prim.Native.Nat.{_+_, _-_, _*_}
+use native.Mathlib.Omega.{arith}
 use borrow.Author.Needs.{needs}
+use lib.ListN.{length-set}
+use Rattle.store.specs.Visits.{held-length, held-put}
+use Rattle.store.specs.Places.{NOTES, NOTELIST}
+use Rattle.checkpoint.specs.Parts.{holding}
 use Rattle.checkpoint.proofs.hold.Statement.{statement}
 use Rattle.checkpoint.proofs.hold.Tie as tie
-use Rattle.checkpoint.proofs.hold.Reads as reads
-use Rattle.checkpoint.proofs.hold.Lts as lts
-use Rattle.notelist.proofs.empty.Reads as empty-reads
 
--- src/lib.rt:61:7
 add-s : tie.Need-add-s
 add-s c = search needs
 
--- src/lib.rt:61:5
 mul-s : tie.Need-mul-s
 mul-s c = search needs
 
--- src/lib.rt:61:5
 slice-write-s : tie.Need-slice-write-s
 slice-write-s c = search needs
 
--- src/lib.rt:62:21
 mul-a : tie.Need-mul-a
 mul-a c = search needs
 
--- src/lib.rt:62:13
 add-a : tie.Need-add-a
 add-a c = search needs
 
--- src/lib.rt:63:13
 add-e : tie.Need-add-e
 add-e c = search needs
 
--- src/lib.rt:64:21
 mul-empty : tie.Need-mul-empty
 mul-empty c = search needs
 
--- src/lib.rt:64:21
 sub-empty : tie.Need-sub-empty
 sub-empty c = search needs
 
--- src/lib.rt:64:21
 part-empty-start : tie.Need-part-empty-start
 part-empty-start c = search needs
 
--- src/lib.rt:64:21
 part-empty-end : tie.Need-part-empty-end
 part-empty-end c = simp length-set (omega arith)
 
--- src/lib.rt:64:5
 empty-requires : tie.Need-empty-requires
 empty-requires c κs = search needs
 
--- src/lib.rt:55:1
 same-length : tie.Need-same-length
 same-length c =
     let u = c .before .before in
@@ -65,7 +51,6 @@ same-length c =
     let e : (NOTES + st .args .p * NOTELIST + NOTELIST) - (NOTES + st .args .p * NOTELIST) ≡ NOTELIST = omega arith in
     rw e (held-length (st .args .s .now) (st .pre .0) (st .args .p) (st .pre .1) 1 (u .empty .last .0) (omega arith) ∙ sym (st .pre .0))
 
--- src/lib.rt:55:1
 returns : tie.Need-returns
 unfolding holding
 returns c =

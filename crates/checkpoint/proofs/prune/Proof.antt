@@ -1,38 +1,28 @@
-use Rattle.checkpoint.specs.Rows.{prune-is}
+-- `checkpoint::prune` meets its contract: the table is the row that the memory lends.
 use native.Mathlib.Omega.{arith}
 use borrow.Author.Needs.{needs}
+use Rattle.checkpoint.specs.Rows.{prune-is}
 use Rattle.checkpoint.proofs.prune.Statement.{statement}
 use Rattle.checkpoint.proofs.prune.Tie as tie
-use Rattle.checkpoint.proofs.prune.Reads as reads
-use Rattle.checkpoint.proofs.prune.Lts as lts
-use Rattle.memory.proofs.height.Reads as height-reads
-use Rattle.tickets.proofs.prune.Reads as prune-reads
 
--- src/lib.rt:29:9
 height-requires : tie.Need-height-requires
 height-requires c κs = search needs
 
--- src/lib.rt:30:20
 sub-prune : tie.Need-sub-prune
 sub-prune c = search needs
 
--- src/lib.rt:30:20
 part-prune-start : tie.Need-part-prune-start
 part-prune-start c = search needs
 
--- src/lib.rt:30:20
 part-prune-end : tie.Need-part-prune-end
 part-prune-end c = search needs
 
--- src/lib.rt:30:5
 prune-requires : tie.Need-prune-requires
 prune-requires c κs = search needs
 
--- src/lib.rt:25:1
 same-length : tie.Need-same-length
 same-length c = search needs
 
--- src/lib.rt:25:1
 returns : tie.Need-returns
 returns c =
     let u = c .before .before in

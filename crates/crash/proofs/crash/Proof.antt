@@ -1,0 +1,72 @@
+-- `crash::crash` meets its contract: refused, lost without cover, or down.
+use native.Mathlib.Omega.{arith}
+use borrow.Author.Tests.{not-true, not-false}
+use borrow.Author.Needs.{needs}
+use Rattle.store.specs.Framing.{refused}
+use Rattle.crash.specs.Whole.{crash-in, covered, uncovered}
+use Rattle.crash.proofs.crash.Statement.{statement}
+use Rattle.crash.proofs.crash.Tie as tie
+
+judge-requires : tie.Need-judge-requires
+judge-requires c κs = search needs
+
+same-length : tie.Need-same-length
+same-length c = search needs
+
+returns : tie.Need-returns
+returns c =
+    let j = c .before in
+    let st = j .before .before .before in
+    refused (st .args .s .now) _ _ (j .judge .ensures) _ (c .if1 .taken)
+
+has-cover-requires : tie.Need-has-cover-requires
+has-cover-requires c κs = search needs
+
+slice-write-s : tie.Need-slice-write-s
+slice-write-s c = search needs
+
+same-length-2 : tie.Need-same-length-2
+same-length-2 c = search needs
+
+returns-2 : tie.Need-returns-2
+returns-2 c =
+    let h = c .before in
+    let x = h .before .before in
+    let j = x .before in
+    let st = j .before .before .before in
+    uncovered (st .args .s .now) (st .args .p) _ (j .judge .ensures) (search needs) _ (h .has-cover .ensures) (not-true _ (c .if2 .taken)) (st .pre)
+
+go-down-requires : tie.Need-go-down-requires
+go-down-requires c κs =
+    let x = c .before .before .before .before in
+    let j = x .before in
+    let st = j .before .before .before in
+    let h = crash-in (st .args .s .now) (st .args .p) (j .judge .result) (j .judge .ensures) (search needs) in
+    (search needs, omega arith)
+
+same-length-3 : tie.Need-same-length-3
+same-length-3 c = search needs
+
+returns-3 : tie.Need-returns-3
+returns-3 c =
+    let g = c .before .before in
+    let h = g .before .before .before in
+    let x = h .before .before in
+    let j = x .before in
+    let st = j .before .before .before in
+    covered (st .args .s .now) (st .args .p) _ (j .judge .ensures) (search needs) _ (h .has-cover .ensures) (not-false _ (g .before .before .if2 .left)) (g .go-down .last .0) (g .go-down .ensures)
+
+pub crash-spec : {M : Type 1} → statement M
+crash-spec =
+    tie.close
+    (tie.spec
+    judge-requires
+    same-length
+    returns
+    has-cover-requires
+    slice-write-s
+    same-length-2
+    returns-2
+    go-down-requires
+    same-length-3
+    returns-3)

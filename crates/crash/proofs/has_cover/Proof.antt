@@ -1,0 +1,63 @@
+-- `crash::has_cover` meets its contract: the machines before q are normal, so the answer is that for the rest.
+use mathlib.Core.Path.{_≡_, sym, _∙_}
+use Prim.Native.Nat.{_-_, _≤_}
+use native.Mathlib.Omega.{arith}
+use borrow.Author.Tests.{not-true, not-false}
+use borrow.Author.Needs.{needs}
+use Rattle.layout.specs.Loops.{each, each-hit, each-miss, each-end}
+use Rattle.protocol.specs.Crash.{is-normal}
+use Rattle.store.specs.View.{view}
+use Rattle.crash.specs.Cover.{all-normal, each-machine, no-cover, cover-held}
+use Rattle.crash.proofs.has_cover.Statement.{statement}
+use Rattle.crash.proofs.has_cover.Tie as tie
+
+abbrev Inv-loop : tie.InvT-loop
+Inv-loop s p q₀ q = (1 ≤ q) × (q ≤ 7) × (all-normal (view s) ≡ each (is-normal (view s)) (7 - q) q)
+
+abbrev μ-loop : tie.MeasureT-loop
+μ-loop s p q₀ q = 7 - q
+
+loop-holds : tie.Need-loop-holds Inv-loop μ-loop
+loop-holds c = (search needs, search needs, each-machine _)
+
+is-normal-requires : tie.Need-is-normal-requires Inv-loop μ-loop
+is-normal-requires c κs = search needs
+
+returns : tie.Need-returns Inv-loop μ-loop
+returns c =
+    let l = c .before .before .before .loop in
+    no-cover _ _ (each-miss _ 7 (l .q) _ (l .inv .2) (omega arith) (sym (c .before .is-normal .ensures) ∙ not-true _ (c .if1 .taken)))
+
+add-q : tie.Need-add-q Inv-loop μ-loop
+add-q c = search needs
+
+loop-less : tie.Need-loop-less Inv-loop μ-loop
+loop-less c = search needs
+
+loop-again : tie.Need-loop-again Inv-loop μ-loop
+loop-again c =
+    let l = c .before .before .before .loop in
+    (search needs, search needs, each-hit _ 7 (l .q) _ (l .inv .2) (omega arith) (sym (c .before .is-normal .ensures) ∙ not-false _ (c .if1 .left)))
+
+is-held-requires : tie.Need-is-held-requires Inv-loop μ-loop
+is-held-requires c κs = search needs
+
+returns-2 : tie.Need-returns-2 Inv-loop μ-loop
+returns-2 c =
+    let l = c .before .before .loop in
+    cover-held _ _ (each-end _ 7 (l .q) _ (l .inv .2) (omega arith)) _ (c .is-held .ensures)
+
+pub has-cover-spec : {M : Type 1} → statement M
+has-cover-spec =
+    tie.close
+    (tie.spec
+    Inv-loop
+    μ-loop
+    loop-holds
+    is-normal-requires
+    returns
+    add-q
+    loop-less
+    loop-again
+    is-held-requires
+    returns-2)

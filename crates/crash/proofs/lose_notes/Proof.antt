@@ -1,0 +1,119 @@
+-- `crash::lose_notes` meets its contract: the machines below n are done.
+use mathlib.Core.Path.{_≡_}
+use Prim.Native.Nat.{_+_, _-_, _*_, _≤_}
+use native.Mathlib.Omega.{arith}
+use borrow.Author.Needs.{needs}
+use lib.ListN.{length-set, length}
+use Rattle.store.specs.Visits.{held-length}
+use Rattle.store.specs.Places.{STORE, NOTES, NOTELIST}
+use Rattle.store.specs.View.{view}
+use Rattle.crash.specs.Keeping.{kept-to, kept-none, kept-miss, kept-hit, kept-end}
+use Rattle.crash.proofs.lose_notes.Statement.{statement}
+use Rattle.crash.proofs.lose_notes.Tie as tie
+
+abbrev Inv-loop : tie.InvT-loop
+Inv-loop s₀ p n₀ s n = (n ≤ 7) × (length s ≡ STORE) × (view s ≡ kept-to (view s₀) p n)
+
+abbrev μ-loop : tie.MeasureT-loop
+μ-loop s₀ p n₀ s n = 7 - n
+
+loop-holds : tie.Need-loop-holds Inv-loop μ-loop
+loop-holds c = (omega arith, c .before .pre, kept-none _ _)
+
+add-n : tie.Need-add-n Inv-loop μ-loop
+add-n c = search needs
+
+buddy-requires : tie.Need-buddy-requires Inv-loop μ-loop
+buddy-requires c κs = search needs
+
+cast-i : tie.Need-cast-i Inv-loop μ-loop
+cast-i c = search needs
+
+add-s : tie.Need-add-s Inv-loop μ-loop
+add-s c = search needs
+
+mul-s : tie.Need-mul-s Inv-loop μ-loop
+mul-s c = search needs
+
+slice-write-s : tie.Need-slice-write-s Inv-loop μ-loop
+slice-write-s c = search needs
+
+mul-a : tie.Need-mul-a Inv-loop μ-loop
+mul-a c = search needs
+
+add-a : tie.Need-add-a Inv-loop μ-loop
+add-a c = search needs
+
+add-e : tie.Need-add-e Inv-loop μ-loop
+add-e c = search needs
+
+mul-empty : tie.Need-mul-empty Inv-loop μ-loop
+mul-empty c = search needs
+
+sub-empty : tie.Need-sub-empty Inv-loop μ-loop
+sub-empty c = search needs
+
+part-empty-start : tie.Need-part-empty-start Inv-loop μ-loop
+part-empty-start c = search needs
+
+part-empty-end : tie.Need-part-empty-end Inv-loop μ-loop
+part-empty-end c = simp length-set (omega arith)
+
+empty-requires : tie.Need-empty-requires Inv-loop μ-loop
+empty-requires c κs = search needs
+
+loop-less : tie.Need-loop-less Inv-loop μ-loop
+loop-less c = search needs
+
+loop-again : tie.Need-loop-again Inv-loop μ-loop
+loop-again c =
+    let u = c .before .before in
+    let b = u .before .before .before in
+    let l = b .before .before .before .loop in
+    let e : (NOTES + l .n * NOTELIST + NOTELIST) - (NOTES + l .n * NOTELIST) ≡ NOTELIST = omega arith in
+    (omega arith, rw e (held-length (l .s) (l .inv .1) (l .n) (omega arith) 0 (u .empty .last .0) (omega arith)), rw e (kept-hit _ _ (l .n) (l .s) (l .inv .2) _ (b .buddy .ensures .0) (u .before .before .if1 .taken) (l .inv .1) (omega arith) (u .empty .last .0) (omega arith) (u .empty .ensures)))
+
+loop-less-2 : tie.Need-loop-less-2 Inv-loop μ-loop
+loop-less-2 c = search needs
+
+loop-again-2 : tie.Need-loop-again-2 Inv-loop μ-loop
+loop-again-2 c =
+    let b = c .before in
+    let l = b .before .before .before .loop in
+    (omega arith, l .inv .1, kept-miss _ _ (l .n) (l .s) (l .inv .2) _ (b .buddy .ensures .0) (c .if1 .left))
+
+same-length : tie.Need-same-length Inv-loop μ-loop
+same-length c = search needs
+
+returns : tie.Need-returns Inv-loop μ-loop
+returns c =
+    let l = c .before .loop in
+    kept-end _ _ (l .n) (l .s) (l .inv .2) (c .before .before .before .pre) (omega arith)
+
+pub lose-notes-spec : {M : Type 1} → statement M
+lose-notes-spec =
+    tie.close
+    (tie.spec
+    Inv-loop
+    μ-loop
+    loop-holds
+    add-n
+    buddy-requires
+    cast-i
+    add-s
+    mul-s
+    slice-write-s
+    mul-a
+    add-a
+    add-e
+    mul-empty
+    sub-empty
+    part-empty-start
+    part-empty-end
+    empty-requires
+    loop-less
+    loop-again
+    loop-less-2
+    loop-again-2
+    same-length
+    returns)

@@ -1,0 +1,65 @@
+-- The parts of a crash, put together, are the definition's; its questions as the code puts them; and what the frame leaves.
+use mathlib.Core.Path.{_≡_, refl, ap, _∙_}
+use mathlib.Core.Bool.{Bool, true, false, not}
+use mathlib.Core.List.{List, [], _∷_}
+use Prim.Native.Nat.{ℕ, _+_, _<_, _≤_}
+use native.Mathlib.Omega.{arith}
+use lib.ListN.{length, set}
+use Rattle.lists.specs.Lists.{keep}
+use Rattle.lists.specs.Questions.{first-no, asks}
+use Rattle.protocol.specs.declared.Answer.the-variants.{Accepted, Lost}
+use Rattle.protocol.specs.Frames.{between}
+use Rattle.protocol.specs.Parts.{State, up, with-lost, with-live, with-copies, with-wire}
+use Rattle.protocol.specs.Crash.{has-cover, survives, crash}
+use Rattle.protocol.specs.Questions.{crash-questions, is-machine}
+use Rattle.protocol.specs.Step.{Outcome, judged}
+use Rattle.words.specs.Part.{part, put}
+use Rattle.head.specs.Head.{HEAD, STATUS, LOST, job-of, lost-of, status-of, as-status, runs}
+use Rattle.head.specs.Kept.{head-part}
+use Rattle.packets.specs.Words.{packets}
+use Rattle.store.specs.Places.{STORE, WIRE, PACKETS}
+use Rattle.store.specs.View.{view, outcome, Framed}
+use Rattle.store.specs.ViewLaws.{wire-put, status-set, lost-set}
+use Rattle.store.specs.Framing.{answered, machine-in}
+
+-- with cover, or without; machines settle later
+unfoldable pub crash-tried : State → ℕ → Bool → Outcome
+crash-tried s p true = record { state = crash s p; answer = Accepted }
+crash-tried s p false = record { state = with-lost s true; answer = Lost }
+
+-- the wire: h is the head
+pub wire-is : (xs h ys : List ℕ) (p : ℕ) → length xs ≡ STORE → length ys ≡ PACKETS → h ≡ part 0 HEAD xs → packets ys ≡ keep (survives (job-of h) p) (packets (part WIRE PACKETS xs))
+    → view (put WIRE PACKETS xs ys) ≡ with-wire (view xs) (crash (view xs) p .wire)
+unfolding crash view
+wire-is xs h ys p size long is-h e = wire-put xs size ys long ∙ ap (with-wire (view xs)) (e ∙ rw (is-h, head-part xs .job))
+
+-- down; the memories, the copies, the notes, the packets gone
+pub crash-is : (xs : List ℕ) (p : ℕ) (t u v w : State) → length xs ≡ STORE → p < 7
+    → t ≡ with-live (view (set xs (STATUS + p) 1)) (crash (view (set xs (STATUS + p) 1)) p .live)
+    → u ≡ with-copies t (t .held) (crash t p .copy) (t .notes)
+    → v ≡ with-copies u (crash u p .held) (u .copy) (crash u p .notes)
+    → w ≡ with-wire v (crash v p .wire)
+    → w ≡ crash (view xs) p
+unfolding crash as-status
+crash-is xs p t u v w size h is-t is-u is-v is-w = is-w ∙ rw (is-v, is-u, is-t, status-set xs size 1 p h)
+
+module _ (xs : List ℕ) (p n : ℕ) where
+  pub asked : (set in-range lost u : Bool) → set ≡ job-of xs .set → in-range ≡ between 1 (job-of xs .machines) p → lost ≡ lost-of xs → u ≡ runs (status-of xs) p
+      → n ≡ first-no 2 (set ∷ in-range ∷ not lost ∷ u ∷ []) → n ≡ first-no 2 (crash-questions (view xs) p)
+  unfolding crash-questions is-machine view up runs
+  asked set in-range lost u is-set is-in is-lost is-u q = q ∙ rw (is-set, is-in, is-lost, is-u)
+
+  module _ (e : n ≡ first-no 2 (crash-questions (view xs) p)) (z : n ≡ 0) where
+    pub crash-in : (1 ≤ p) × (p ≤ 6)
+    unfolding crash-questions is-machine view
+    crash-in = machine-in xs p n _ _ _ _ e refl z
+
+    -- b: whether it has cover
+    module _ (b : Bool) (is-b : b ≡ has-cover (view xs) p) where
+      pub covered : b ≡ true → (ys : List ℕ) → view ys ≡ crash (view xs) p → Framed xs ys Accepted (judged (view xs) (asks 2 (crash-questions (view xs) p) (crash-tried (view xs) p (has-cover (view xs) p))))
+      unfolding outcome crash-tried
+      covered c ys q = answered xs _ n e ys Accepted _ (λ m y. absurd (let y : _≡_ {A = ℕ} 0 1 = cc in omega arith)) z (rw (← is-b, c, q))
+
+      pub uncovered : b ≡ false → length xs ≡ STORE → Framed xs (set xs LOST 1) Lost (judged (view xs) (asks 2 (crash-questions (view xs) p) (crash-tried (view xs) p (has-cover (view xs) p))))
+      unfolding outcome crash-tried
+      uncovered c size = answered xs _ n e (set xs LOST 1) Lost _ (λ m y. absurd (let y : _≡_ {A = ℕ} 0 1 = cc in omega arith)) z (rw (← is-b, c, lost-set xs size 1))
