@@ -24,6 +24,7 @@ use Rattle.memory.specs.Places.{MEMORY}
 use Rattle.memory.specs.View.{memory-view}
 use Rattle.store.specs.Places.{NOTELIST, WIRE, PACKETS, STORE, live-from, notes-from}
 use Rattle.store.specs.View.{view, outcome, Framed}
+use Rattle.store.specs.Framing.{accepts}
 use Rattle.store.specs.ViewLaws.{live-at, wire-at, notes-at, live-length, live-put, wire-kept, notes-length, notes-put, wire-put}
 use Rattle.deliver.specs.declared.arrive.Reply.{Reply}
 use Rattle.deliver.specs.declared.arrive.Reply.the-variants.{Nothing, Send}
@@ -43,9 +44,9 @@ module _ (xs ys : List ℕ) (o : Outcome) where
   unfolding outcome
   refused n same e = record { gives = rw same e; stays = λ m q. same }
 
-  pub accepted : done (view ys) ≡ o → Framed xs ys Accepted o
+  accepted : done (view ys) ≡ o → Framed xs ys Accepted o
   unfolding outcome
-  accepted e = record { gives = e; stays = λ n q. absurd (let z : _≡_ {A = ℕ} 0 1 = cc in omega arith) }
+  accepted e = accepts xs ys (sym e)
 
 -- an answer goes to the end of a wire with room
 wire-answered : (s : State) (l : List Packet) (p : Packet) (y : Reply) → Fits p → fit-reply (reply-of y) ≡ reply-of y → length l < wire-room → with-wire s (answered l p y) ≡ with-reply (with-wire s l) p (reply-of y)

@@ -1,6 +1,6 @@
 -- What a wire can hold: its room, and the range of every field of a packet on it.
 use mathlib.Core.Bool.{Bool}
-use mathlib.Core.List.{List, [], _∷_, map}
+use mathlib.Core.List.{List}
 use mathlib.Core.Option.{some}
 use mathlib.Core.Path.{_≡_, sym}
 use Prim.Native.Nat.{ℕ, _-_, _<_, _≤_}
@@ -12,6 +12,7 @@ use Rattle.lists.specs.Tests.{either}
 use Rattle.lists.specs.Lists.{find}
 use Rattle.protocol.specs.declared.Packet.{Packet}
 use Rattle.words.specs.Rows.{row, row-length}
+use Rattle.words.specs.Mapped.{find-holds}
 use Rattle.item.specs.Item.{item-of, peer-small, owner-small, hops-small}
 use Rattle.packets.specs.Words.{granted, carried, content-of, as-packet, unpacked, fit-content, fitted, packets}
 use Rattle.packets.specs.View.{found, sought, sought-packet}
@@ -57,14 +58,6 @@ word-fits w = record {
   sn = sn-small w;
   content = content-fits (item-of w .kind) (item-of w .flags) (item-of w .tn) (item-of w .value) (item-of w .hops) (hops-small w);
 }
-
--- ---- what holds of every word's meaning holds of what is found
-pub find-holds : {A : Type 0} (f : ℕ → A) (P : A → Type 0) → ((w : ℕ) → P (f w)) → (q : A → Bool) (l : List ℕ) {x : A} → find q (map f l) ≡ some x → P x
-unfolding find
-find-holds f P h q [] e = absurd (let z : _≡_ {A = ℕ} 0 1 = cc in omega arith)
-find-holds f P h q (w ∷ l) {x} e = either (q (f w))
-    (λ g. let d : x ≡ f w = cc (rw g at e) in rw d (h w))
-    (λ g. find-holds f P h q l (rw g at e))
 
 pub packet-fits : (ws : List ℕ) (q : Packet → Bool) {p : Packet} → find q (packets ws) ≡ some p → Fits p
 unfolding packets

@@ -16,7 +16,7 @@ use Rattle.protocol.specs.Sending.{send, send-all}
 use Rattle.protocol.specs.Step.{Outcome}
 use Rattle.head.specs.Head.{job-of, lost-of}
 use Rattle.store.specs.View.{view, tried, Framed}
-use Rattle.sends.specs.Framing.{refused, accepted}
+use Rattle.store.specs.Framing.{refuses as refused, accepts as accepted}
 use Rattle.sends.specs.Made.{Made, sends-made, sends-refused}
 use Rattle.sends.specs.Sends.{sends-questions, tried-sends, and-true}
 use Rattle.sends.specs.Verdict.{stopped, passed}

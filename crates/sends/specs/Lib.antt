@@ -17,7 +17,6 @@ pub mod InMemory
 pub mod Planned
 pub mod Stored
 pub mod Made
-pub mod Framing
 pub mod Works
 pub mod Worked
 pub mod WorkAt

@@ -20,7 +20,7 @@ use Rattle.store.specs.Places.{STORE, live-from}
 use Rattle.store.specs.View.{view, Framed}
 use Rattle.store.specs.ViewLaws.{live-at, live-put}
 use Rattle.sends.specs.declared.entry.Worked.{Worked}
-use Rattle.sends.specs.Framing.{refused, accepted}
+use Rattle.store.specs.Framing.{refuses as refused, accepts as accepted}
 use Rattle.sends.specs.Made.{Made, sends-made, sends-refused}
 use Rattle.sends.specs.Sends.{tried-sends}
 use Rattle.sends.specs.Worked.{NumbersOf, numbers-taken, WorkedAs}

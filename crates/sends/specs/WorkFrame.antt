@@ -22,7 +22,7 @@ use Rattle.memory.specs.View.{memory-view, table-part}
 use Rattle.store.specs.Places.{live-from}
 use Rattle.store.specs.View.{view, tried, Framed}
 use Rattle.store.specs.ViewLaws.{live-at}
-use Rattle.sends.specs.Framing.{refused}
+use Rattle.store.specs.Framing.{refuses as refused}
 use Rattle.sends.specs.Reading.{chare-in}
 use Rattle.sends.specs.Works.{worked-state, chare-questions, tried-work, work-tried, work-refused, none-refused}
 

@@ -18,7 +18,15 @@ use Rattle.head.specs.Head.{job-of}
 use Rattle.head.specs.HeadLaws.{machines-top}
 use Rattle.store.specs.View.{view, outcome, tried, Framed}
 
--- n is what the code finds
+-- ---- a frame's end: the store is as it was, or the frame is accepted
+pub refuses : (xs : List ℕ) (n : ℕ) {o : Outcome} → o ≡ record { state = view xs; answer = Refused n } → Framed xs xs (Refused n) o
+unfolding outcome
+refuses xs n e = record { gives = sym e; stays = λ _ _. refl }
+
+pub accepts : (xs ys : List ℕ) {o : Outcome} → o ≡ outcome ys Accepted → Framed xs ys Accepted o
+accepts xs ys e = record { gives = sym e; stays = λ n q. absurd (let z : _≡_ {A = ℕ} 0 1 = cc in omega arith) }
+
+-- ---- by the questions: n is what the code finds
 module _ (xs : List ℕ) (l : List Bool) (n : ℕ) (e : n ≡ first-no 2 l) where
   pub refused : (o : Outcome) → n ≢ 0 → Framed xs xs (Refused n) (judged (view xs) (asks 2 l o))
   unfolding outcome judged

@@ -1,15 +1,15 @@
 -- A table has at most as many entries as there is room behind the count, and what is found in it fits a word.
 use mathlib.Core.Path.{_≡_, sym}
 use mathlib.Core.Bool.{Bool}
-use mathlib.Core.List.{List, [], _∷_, map}
+use mathlib.Core.List.{List}
 use mathlib.Core.Option.{some}
 use Prim.Native.Nat.{ℕ, _-_, _<_, _≤_}
 use native.Mathlib.Omega.{arith}
 use lib.ListN.{length, getD, length-map, List·getD-map}
-use Rattle.lists.specs.Tests.{either}
 use Rattle.lists.specs.Lists.{find}
 use Rattle.protocol.specs.declared.Entry.{Entry}
 use Rattle.words.specs.Rows.{row, row-length}
+use Rattle.words.specs.Mapped.{find-holds}
 use Rattle.tickets.specs.Table.{entry-of, entries}
 use Rattle.tickets.specs.EntryLaws.{sender-small, hops-small, value-small, tn-small, sn-small}
 
@@ -24,14 +24,6 @@ entry-at ws i = List·getD-map entry-of (row ws) i 0
 
 pub entries-fit : (ws : List ℕ) → length (entries ws) ≤ length ws - 1
 entries-fit ws = omega (arith, count-is ws, row-length ws)
-
--- what every word means holds of what is found
-pub find-holds : {A : Type 0} (f : ℕ → A) (P : A → Type 0) → ((w : ℕ) → P (f w)) → (q : A → Bool) (l : List ℕ) {x : A} → find q (map f l) ≡ some x → P x
-unfolding find
-find-holds f P h q [] e = absurd (let z : _≡_ {A = ℕ} 0 1 = cc in omega arith)
-find-holds f P h q (w ∷ l) {x} e = either (q (f w))
-    (λ g. let d : x ≡ f w = cc (rw g at e) in rw d (h w))
-    (λ g. find-holds f P h q l (rw g at e))
 
 abbrev pub InRange : Entry → Type 0
 InRange e = (e .sender < 16) × (e .hops < 8) × (e .value < 65536) × (e .tn < 65536) × (e .sn < 65536)
