@@ -1,10 +1,10 @@
 -- A job begun in place, and the answers to its frame.
-use mathlib.Core.Path.{_≡_, refl, sym, ap, _∙_}
-use mathlib.Core.Bool.{Bool, true, false, not}
+use mathlib.Core.Path.{_≡_, refl, ap, _∙_}
+use mathlib.Core.Bool.{true, false}
 use mathlib.Core.List.{List, []}
 use Prim.Native.Nat.{ℕ, _≤_}
 use native.Mathlib.Omega.{arith}
-use lib.ListN.{length, getD, replicate, length-replicate}
+use lib.ListN.{getD, replicate, length-replicate}
 use Rattle.lists.specs.Questions.{asks}
 use Rattle.protocol.specs.declared.Answer.the-variants.{Accepted, Refused}
 use Rattle.protocol.specs.declared.Status.the-variants.{Up}
@@ -46,8 +46,9 @@ module _ (b : List ℕ) (ok : job-in-range b ≡ true) (n : ℕ) (is-n : n ≡ g
   unfolding all-started named begin first-memory has-chare chares-of new-memory blank
   begin-is = rw is-n
 
-  pub begins : (k : ℕ) → k ≡ STORE → (ys : List ℕ) → Written b ys → (zs : List ℕ) → view zs ≡ all-started (view (put 0 HEAD (replicate k 0) ys)) n → view zs ≡ begin b
-  begins k e ys w zs q = q ∙ ap (λ s. all-started s n) (open-view k e ys w) ∙ begin-is
+  -- xs is cleared, then ys is its head, then n chares start, which gives zs
+  pub begins : (k : ℕ) (xs : List ℕ) → xs ≡ replicate k 0 → k ≡ STORE → (ys : List ℕ) → Written b ys → (zs : List ℕ) → view zs ≡ all-started (view (put 0 HEAD xs ys)) n → view zs ≡ begin b
+  begins k xs z e ys w zs q = q ∙ ap (λ l. all-started (view (put 0 HEAD l ys)) n) z ∙ ap (λ s. all-started s n) (open-view k e ys w) ∙ begin-is
 
 -- ---- the frame
 module _ (xs b : List ℕ) where

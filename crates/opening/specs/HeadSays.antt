@@ -1,27 +1,26 @@
 -- A written head says the line's job, if its numbers are in range.
-use mathlib.Core.Path.{_≡_, refl, sym, ap, fun-ext, _∙_}
+use mathlib.Core.Path.{_≡_, refl, sym, fun-ext}
 use mathlib.Core.Bool.{true, false}
 use mathlib.Core.List.{List}
 use mathlib.Core.Logic.{⊎-elim}
-use Prim.Native.Nat.{ℕ, _+_, _<_, _≤_, min}
+use Prim.Native.Nat.{ℕ, _+_, _≤_}
 use native.Mathlib.Omega.{arith}
-use lib.Dec.{eqb}
-use lib.ListN.{length, getD}
+use lib.ListN.{length}
 use Rattle.lists.specs.Tests.{lt?}
 use Rattle.arrays.specs.ArrayMap.{as-map, map-beyond}
 use Rattle.protocol.specs.declared.Status.the-variants.{Up}
 use Rattle.protocol.specs.Job.{machines-of, chares-of, job-in-range, job-of, has-machine}
 use Rattle.frames.specs.DigitLaws.{between-high}
 use Rattle.layout.specs.JobCode.{no-buddy-low, no-buddy-high, no-number-low, no-number-high}
-use Rattle.layout.specs.JobLaws.{InRange, in-range}
+use Rattle.layout.specs.JobLaws.{in-range}
 use Rattle.layout.specs.JobView.{buddy-top, number-top, home-top, first-top, second-top}
 use Rattle.layout.specs.View.{number-of}
-use Rattle.words.specs.Fields.{bit, bit-set}
+use Rattle.words.specs.Fields.{bit-set}
 use Rattle.words.specs.Part.{part, part-length}
-use Rattle.words.specs.Zeros.{zeros, zero-at}
+use Rattle.words.specs.Zeros.{zero-at}
 use Rattle.head.specs.Cells.{Filled, cell-filled}
 use Rattle.head.specs.Head as head
-use Rattle.head.specs.Head.{BUDDY, STATUS, HELD, HOME, FIRST, SECOND, TARGET, HEAD, cell, lost-of, as-status, status-of, held-of, target-of}
+use Rattle.head.specs.Head.{BUDDY, HELD, HOME, FIRST, SECOND, HEAD, cell, lost-of, as-status, status-of, held-of, target-of}
 use Rattle.head.specs.HeadLaws.{job-is}
 use Rattle.head.specs.Kept.{Says}
 use Rattle.opening.specs.Words.{word-of, Written}

@@ -5,7 +5,7 @@ use mathlib.Core.List.{List}
 use Prim.Native.Nat.{ℕ, _+_, _-_, _<_, _≤_}
 use native.Mathlib.Omega.{arith}
 use native.Mathlib.Nat.{mod-eq-of-lt}
-use lib.ListN.{length, getD, set}
+use lib.ListN.{length, set}
 use lib.Seq.{getD-set-same, getD-set-other}
 use Rattle.lists.specs.Map.{upd}
 use Rattle.protocol.specs.Parts.{Memory, State, with-memory}
@@ -17,7 +17,7 @@ use Rattle.memory.specs.Places.{STATE, HEIGHT, TOP, NUMBERS, SN, MARK, WINDOW, 
 use Rattle.memory.specs.View.{memory-view}
 use Rattle.store.specs.Places.{STORE, live-from, copy-from}
 use Rattle.store.specs.View.{view}
-use Rattle.store.specs.ViewLaws.{live-at, copy-at, live-changed, live-length, copy-put, with-copy}
+use Rattle.store.specs.ViewLaws.{copy-at, live-changed, live-length, copy-put, with-copy}
 use Rattle.settle.specs.Sweep.{front, above, front-start, front-put, front-end}
 
 abbrev pub with-state : Memory → ℕ → Memory
@@ -112,11 +112,15 @@ module _ (xs : List ℕ) (size : length xs ≡ STORE) (c : ℕ) (h : c < 13) whe
   abbrev copy-long : ℕ
   copy-long = (copy-from c + MEMORY) - copy-from c
 
-  pub both-started : (ys zs : List ℕ) → length ys ≡ MEMORY → length zs ≡ MEMORY
+  pub both-started : (ys zs : List ℕ)
+      → length ys ≡ length (part (live-from c) long xs)
+      → length zs ≡ length (part (copy-from c) copy-long (put (live-from c) long xs ys))
       → memory-view ys ≡ with-state (memory-view (part (live-from c) long xs)) c
       → memory-view zs ≡ with-state (memory-view (part (copy-from c) copy-long (put (live-from c) long xs ys))) c
       → view (put (copy-from c) copy-long (put (live-from c) long xs ys) zs) ≡ started (view xs) c
   both-started ys zs ly lz ey ez =
       let e : long ≡ MEMORY = omega arith in
       let f : copy-long ≡ MEMORY = omega arith in
-      rw (e, f) (both-put ys zs ly lz (rw e at ey) (rw (e, f) at ez))
+      let ky : length ys ≡ MEMORY = (rw e at ly) ∙ part-length (live-from c) MEMORY xs (omega arith) in
+      let kz : length zs ≡ MEMORY = (rw (e, f) at lz) ∙ part-length (copy-from c) MEMORY (put (live-from c) MEMORY xs ys) (omega (arith, live-length xs size c h ys ky)) in
+      rw (e, f) (both-put ys zs ky kz (rw e at ey) (rw (e, f) at ez))

@@ -1,17 +1,17 @@
 -- What a job's line writes into the head.
-use mathlib.Core.Path.{_≡_, refl, sym, _∙_}
-use mathlib.Core.Bool.{true, false, cond}
+use mathlib.Core.Path.{_≡_, sym, ap, _∙_}
+use mathlib.Core.Bool.{cond}
 use mathlib.Core.List.{List, [], _∷_}
-use Prim.Native.Nat.{ℕ, _+_, _<_, _≤_}
+use Prim.Native.Nat.{ℕ, _+_, _-_, _<_, _≤_}
 use native.Mathlib.Omega.{arith}
 use borrow.Author.Tests.{eq-eqb, ne-eqb}
 use lib.Dec.{eqb}
-use lib.ListN.{length, getD, set, replicate}
+use lib.ListN.{length, getD, set}
 use Rattle.protocol.specs.Job.{machines-of, job-of, has-machine}
 use Rattle.frames.specs.DigitLaws.{between-in, between-low, between-high}
 use Rattle.layout.specs.View.{number-of}
 use Rattle.words.specs.Fields.{bit}
-use Rattle.words.specs.Part.{part, put, put-length, part-put, part-before, part-behind}
+use Rattle.words.specs.Part.{part, put, part-length, part-put, part-before, part-behind}
 use Rattle.words.specs.Zeros.{zeros}
 use Rattle.head.specs.Cells.{Filled}
 use Rattle.head.specs.Head.{SET, MACHINES, CHARES, BUDDY, STATUS, HELD, HOME, FIRST, SECOND, TARGET, HEAD}
@@ -56,6 +56,26 @@ pub fill-none : (f : ℕ → ℕ) (l : List ℕ) → Filled f l 0
 unfolding Filled
 fill-none f l j h = absurd (omega arith)
 
+-- ---- n words from a place on are written, the others stay
+pub record Wrote (f : ℕ → ℕ) (a n : ℕ) (xs ys : List ℕ) : Type 0 where
+  pub here : Filled f (part a n ys) n
+  pub before : (b j : ℕ) → b + j ≤ a → part b j ys ≡ part b j xs
+  pub behind : (b j : ℕ) → a + n ≤ b → part b j ys ≡ part b j xs
+
+-- as a part is lent, from a to its end: it has the length between them
+pub part-written : (f : ℕ → ℕ) (a n : ℕ) (xs ys : List ℕ) → length xs ≡ HEAD → a + n ≤ HEAD
+    → length ys ≡ length (part a ((a + n) - a) xs) → Filled f ys (length (part a ((a + n) - a) xs)) → Wrote f a n xs (put a ((a + n) - a) xs ys)
+part-written f a n xs ys size within l w =
+    let e : (a + n) - a ≡ n = omega arith in
+    let fits : a + n ≤ length xs = omega arith in
+    let k : length (part a ((a + n) - a) xs) ≡ n = rw e (part-length a n xs fits) in
+    let long : length ys ≡ n = l ∙ k in
+    rw e (record {
+      here = rw (part-put a n xs ys fits long) (rw k at w);
+      before = part-before a n xs ys fits long;
+      behind = part-behind a n xs ys fits long;
+    })
+
 -- ---- the head, part by part
 pub record Written (b h : List ℕ) : Type 0 where
   pub size : length h ≡ HEAD
@@ -68,80 +88,40 @@ pub record Written (b h : List ℕ) : Type 0 where
   pub seconds : Filled (word-of b 2) (part SECOND 13 h) 13
   pub targets : part TARGET 13 h ≡ zeros 13
 
--- as it is written: the four numbers, then each part put anew
-module _ (b : List ℕ) (m n : ℕ) (is-m : m ≡ getD b 1 0) (is-n : n ≡ getD b 2 0) (y1 y2 y3 y4 y5 : List ℕ)
-    (l1 : length y1 ≡ 7) (l2 : length y2 ≡ 7) (l3 : length y3 ≡ 13) (l4 : length y4 ≡ 13) (l5 : length y5 ≡ 13) where
-  abbrev h0 : List ℕ
-  h0 = set (set (set (zeros HEAD) SET 1) MACHINES m) CHARES n
+-- a head of which only the numbers are written
+unfoldable pub numbered : List ℕ → List ℕ
+numbered b = set (set (set (zeros HEAD) SET 1) MACHINES (getD b 1 0)) CHARES (getD b 2 0)
 
-  abbrev h1 : List ℕ
-  h1 = put BUDDY 7 h0 y1
+pub numbers-written : (b : List ℕ) (k : ℕ) (xs : List ℕ) (m n : ℕ) → xs ≡ zeros k → k ≡ HEAD → m ≡ getD b 1 0 → n ≡ getD b 2 0
+    → set (set (set xs SET 1) MACHINES m) CHARES n ≡ numbered b
+unfolding numbered
+numbers-written b k xs m n is-xs is-k is-m is-n = rw (is-xs, is-k, is-m, is-n)
 
-  abbrev h2 : List ℕ
-  h2 = put HELD 7 h1 y2
-
-  abbrev h3 : List ℕ
-  h3 = put HOME 13 h2 y3
-
-  abbrev h4 : List ℕ
-  h4 = put FIRST 13 h3 y4
-
-  abbrev pub the-head : List ℕ
-  the-head = put SECOND 13 h4 y5
-
-  s0 : length h0 ≡ HEAD
-  s0 = refl
-
-  f1 : BUDDY + 7 ≤ length h0
-  f1 = omega (arith, s0)
-
-  s1 : length h1 ≡ HEAD
-  s1 = put-length BUDDY 7 h0 y1 f1 l1 ∙ s0
-
-  f2 : HELD + 7 ≤ length h1
-  f2 = omega (arith, s1)
-
-  s2 : length h2 ≡ HEAD
-  s2 = put-length HELD 7 h1 y2 f2 l2 ∙ s1
-
-  f3 : HOME + 13 ≤ length h2
-  f3 = omega (arith, s2)
-
-  s3 : length h3 ≡ HEAD
-  s3 = put-length HOME 13 h2 y3 f3 l3 ∙ s2
-
-  f4 : FIRST + 13 ≤ length h3
-  f4 = omega (arith, s3)
-
-  s4 : length h4 ≡ HEAD
-  s4 = put-length FIRST 13 h3 y4 f4 l4 ∙ s3
-
-  f5 : SECOND + 13 ≤ length h4
-  f5 = omega (arith, s4)
-
-  -- what lies before, and behind, all parts from HOME on
-  chares-before : (a k : ℕ) → a + k ≤ HOME → part a k the-head ≡ part a k h2
-  chares-before a k h =
-      part-before SECOND 13 h4 y5 f5 l5 a k (omega arith)
-      ∙ part-before FIRST 13 h3 y4 f4 l4 a k (omega arith)
-      ∙ part-before HOME 13 h2 y3 f3 l3 a k h
-
-  pub head-written : Filled (word-of b 3) y1 7 → Filled (word-of b 4) y2 7 → Filled (word-of b 0) y3 13 → Filled (word-of b 1) y4 13 → Filled (word-of b 2) y5 13
-      → Written b the-head
-  head-written w1 w2 w3 w4 w5 = record {
-    size = put-length SECOND 13 h4 y5 f5 l5 ∙ s4;
-    numbers = rw (chares-before 0 4 (omega arith), part-before HELD 7 h1 y2 f2 l2 0 4 (omega arith), part-before BUDDY 7 h0 y1 f1 l1 0 4 (omega arith), ← is-m, ← is-n);
-    buddies = rw (chares-before BUDDY 7 (omega arith), part-before HELD 7 h1 y2 f2 l2 BUDDY 7 (omega arith), part-put BUDDY 7 h0 y1 f1 l1) w1;
-    statuses = rw (chares-before STATUS 7 (omega arith), part-before HELD 7 h1 y2 f2 l2 STATUS 7 (omega arith), part-behind BUDDY 7 h0 y1 f1 l1 STATUS 7 (omega arith));
-    helds = rw (chares-before HELD 7 (omega arith), part-put HELD 7 h1 y2 f2 l2) w2;
-    homes = rw (part-before SECOND 13 h4 y5 f5 l5 HOME 13 (omega arith), part-before FIRST 13 h3 y4 f4 l4 HOME 13 (omega arith), part-put HOME 13 h2 y3 f3 l3) w3;
-    firsts = rw (part-before SECOND 13 h4 y5 f5 l5 FIRST 13 (omega arith), part-put FIRST 13 h3 y4 f4 l4) w4;
-    seconds = rw (part-put SECOND 13 h4 y5 f5 l5) w5;
-    targets = rw (
-      part-behind SECOND 13 h4 y5 f5 l5 TARGET 13 (omega arith),
-      part-behind FIRST 13 h3 y4 f4 l4 TARGET 13 (omega arith),
-      part-behind HOME 13 h2 y3 f3 l3 TARGET 13 (omega arith),
-      part-behind HELD 7 h1 y2 f2 l2 TARGET 13 (omega arith),
-      part-behind BUDDY 7 h0 y1 f1 l1 TARGET 13 (omega arith),
-    );
-  }
+-- then each part
+pub head-written : (b h0 h1 h2 h3 h4 h5 : List ℕ) → length h5 ≡ HEAD → h0 ≡ numbered b
+    → Wrote (word-of b 3) BUDDY 7 h0 h1
+    → Wrote (word-of b 4) HELD 7 h1 h2
+    → Wrote (word-of b 0) HOME 13 h2 h3
+    → Wrote (word-of b 1) FIRST 13 h3 h4
+    → Wrote (word-of b 2) SECOND 13 h4 h5
+    → Written b h5
+unfolding numbered
+head-written b h0 h1 h2 h3 h4 h5 size e w1 w2 w3 w4 w5 =
+    let chares : (a j : ℕ) → a + j ≤ HOME → part a j h5 ≡ part a j h2 = λ a j h. w5 .before a j (omega arith) ∙ w4 .before a j (omega arith) ∙ w3 .before a j h in
+    record {
+      size = size;
+      numbers = chares 0 4 (omega arith) ∙ w2 .before 0 4 (omega arith) ∙ w1 .before 0 4 (omega arith) ∙ ap (part 0 4) e;
+      buddies = rw (chares BUDDY 7 (omega arith), w2 .before BUDDY 7 (omega arith)) (w1 .here);
+      statuses = chares STATUS 7 (omega arith) ∙ w2 .before STATUS 7 (omega arith) ∙ w1 .behind STATUS 7 (omega arith) ∙ ap (part STATUS 7) e;
+      helds = rw (chares HELD 7 (omega arith)) (w2 .here);
+      homes = rw (w5 .before HOME 13 (omega arith), w4 .before HOME 13 (omega arith)) (w3 .here);
+      firsts = rw (w5 .before FIRST 13 (omega arith)) (w4 .here);
+      seconds = w5 .here;
+      targets =
+          w5 .behind TARGET 13 (omega arith)
+          ∙ w4 .behind TARGET 13 (omega arith)
+          ∙ w3 .behind TARGET 13 (omega arith)
+          ∙ w2 .behind TARGET 13 (omega arith)
+          ∙ w1 .behind TARGET 13 (omega arith)
+          ∙ ap (part TARGET 13) e;
+    }

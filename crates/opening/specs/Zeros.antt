@@ -1,17 +1,16 @@
 -- A store of zeros is the state before any job.
-use mathlib.Core.Path.{_≡_, refl, sym, ap, fun-ext, _∙_}
-use mathlib.Core.Bool.{true, false, cond}
-use mathlib.Core.List.{List, [], map}
-use Prim.Native.Nat.{ℕ, _+_, _*_, _<_, _≤_}
+use mathlib.Core.Path.{_≡_, refl}
+use mathlib.Core.Bool.{false}
+use mathlib.Core.List.{[]}
+use Prim.Native.Nat.{ℕ, _+_, _*_, _≤_}
 use native.Mathlib.Omega.{arith}
 use borrow.Author.Tests.{ltb-true}
 use lib.Dec.{ltb}
-use lib.ListN.{getD, replicate}
+use lib.ListN.{replicate}
 use Rattle.lists.specs.Tests.{either}
 use Rattle.arrays.specs.ArrayMap.{as-map, map-blank}
 use Rattle.protocol.specs.declared.Status.the-variants.{Up}
-use Rattle.protocol.specs.Parts.{State, blank, start, no-job}
-use Rattle.window.specs.Bits.{bits}
+use Rattle.protocol.specs.Parts.{blank, start, no-job}
 use Rattle.window.specs.BitLaws.{no-bits}
 use Rattle.words.specs.Part.{part}
 use Rattle.words.specs.Rows.{row}

@@ -1,7 +1,7 @@
 // Frame 01 in place: a job's line becomes the store.
 ghost use mathlib.Core.Path.{_≡_};
 ghost use mathlib.Core.Bool.{true};
-ghost use Prim.Native.Nat.{_≤_, _<_};
+ghost use Prim.Native.Nat.{_+_, _≤_, _<_};
 ghost use lib.ListN.{length};
 ghost use Rattle.protocol.specs.Job.{has-machine, job-in-range, begin as begun};
 ghost use Rattle.protocol.specs.Questions.{job-questions};
@@ -13,7 +13,7 @@ ghost use Rattle.memory.specs.Places.{MEMORY};
 ghost use Rattle.memory.specs.View.{memory-view};
 ghost use Rattle.store.specs.Places.{STORE};
 ghost use Rattle.store.specs.View.{view, tried, Framed};
-ghost use Rattle.opening.specs.Words.{word-of, Written};
+ghost use Rattle.opening.specs.Words.{word-of, Wrote, numbered, Written};
 ghost use Rattle.opening.specs.States.{with-state, started, all-started};
 use head::BUDDY;
 use head::CHARES;
@@ -24,8 +24,6 @@ use head::HOME;
 use head::MACHINES;
 use head::SECOND;
 use head::SET;
-use head::STATUS;
-use head::TARGET;
 use memory::MEMORY;
 use memory::STATE;
 use protocol::Answer;
@@ -69,19 +67,35 @@ fn write_part(a: &mut [u64], line: &[u8], which: u8)
     }
 }
 
-fn write_head(h: &mut [u64], line: &[u8])
+// The n words from a place on.
+fn write_at(h: &mut [u64], from: usize, n: usize, line: &[u8], which: u8)
+    requires { ⌜ (length (now h) ≡ HEAD) × (from + n ≤ HEAD) × (n ≤ 13) ⌝ }
+    ensures { λ _. ⌜ Wrote (word-of (decoded (now (line .entry))) which) from n (now (h .entry)) (now (h .exit)) ⌝ }
+{
+    let to = from + n;
+    write_part(&mut h[from..to], line, which);
+}
+
+fn write_numbers(h: &mut [u64], line: &[u8])
     requires { ⌜ length (now h) ≡ HEAD ⌝ }
-    ensures { λ _. ⌜ Written (decoded (now (line .entry))) (now (h .exit)) ⌝ }
+    ensures { λ _. ⌜ now (h .exit) ≡ numbered (decoded (now (line .entry))) ⌝ }
 {
     words::clear(h);
     h[SET] = 1;
     h[MACHINES] = frames::byte(line, 1) as u64;
     h[CHARES] = frames::byte(line, 2) as u64;
-    write_part(&mut h[BUDDY..STATUS], line, 3);
-    write_part(&mut h[HELD..HOME], line, 4);
-    write_part(&mut h[HOME..FIRST], line, 0);
-    write_part(&mut h[FIRST..SECOND], line, 1);
-    write_part(&mut h[SECOND..TARGET], line, 2);
+}
+
+fn write_head(h: &mut [u64], line: &[u8])
+    requires { ⌜ length (now h) ≡ HEAD ⌝ }
+    ensures { λ _. ⌜ Written (decoded (now (line .entry))) (now (h .exit)) ⌝ }
+{
+    write_numbers(h, line);
+    write_at(h, BUDDY, 7, line, 3);
+    write_at(h, HELD, 7, line, 4);
+    write_at(h, HOME, 13, line, 0);
+    write_at(h, FIRST, 13, line, 1);
+    write_at(h, SECOND, 13, line, 2);
 }
 
 fn write_state(m: &mut [u64], c: u8)
