@@ -18,7 +18,7 @@ module _ {A : Type 0} where
   unfolding front
   below k f g j h = rw (lt-ltb j k h)
 
-  above : (k : ℕ) (f g : ℕ → A) (j : ℕ) → k ≤ j → front k f g j ≡ g j
+  pub above : (k : ℕ) (f g : ℕ → A) (j : ℕ) → k ≤ j → front k f g j ≡ g j
   unfolding front
   above k f g j h = rw (le-ltb j k h)
 

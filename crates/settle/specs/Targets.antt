@@ -1,5 +1,5 @@
 -- The targets of a machine's chares dropped, one chare after the other.
-use mathlib.Core.Path.{_≡_, refl, sym, ap, fun-ext, _∙_}
+use mathlib.Core.Path.{_≡_, refl, ap}
 use mathlib.Core.Bool.{true, false, cond}
 use mathlib.Core.List.{List}
 use Prim.Native.Nat.{ℕ, _+_, _<_, _≤_}
@@ -10,7 +10,7 @@ use lib.ListN.{length, set}
 use Rattle.lists.specs.Tests.{either}
 use Rattle.lists.specs.Map.{upd}
 use Rattle.protocol.specs.Parts.{Job, State, on, at-home, with-status}
-use Rattle.head.specs.Head.{TARGET, HEAD, job-of}
+use Rattle.head.specs.Head.{TARGET, job-of}
 use Rattle.head.specs.HeadLaws.{home-desk, home-beyond}
 use Rattle.store.specs.Places.{STORE}
 use Rattle.store.specs.View.{view}

@@ -1,0 +1,56 @@
+-- `opening::start_chares` meets its contract: those before c have started.
+use mathlib.Core.Path.{_≡_, ap, _∙_}
+use Prim.Native.Nat.{_+_, _-_, _≤_}
+use native.Mathlib.Omega.{arith}
+use borrow.Author.Needs.{needs}
+use lib.ListN.{length}
+use Rattle.store.specs.Places.{STORE}
+use Rattle.store.specs.View.{view}
+use Rattle.opening.specs.States.{started, below, below-start, below-more, below-end}
+use Rattle.opening.proofs.start_chares.Statement.{statement}
+use Rattle.opening.proofs.start_chares.Tie as tie
+
+abbrev Inv-loop : tie.InvT-loop
+Inv-loop s₀ n c₀ s c = (1 ≤ c) × (c ≤ n + 1) × (length s ≡ STORE) × (view s ≡ below (view s₀) n c)
+
+abbrev μ-loop : tie.MeasureT-loop
+μ-loop s₀ n c₀ s c = n + 1 - c
+
+loop-holds : tie.Need-loop-holds Inv-loop μ-loop
+loop-holds c = (search needs, search needs, search needs, below-start _ _)
+
+start-chare-requires : tie.Need-start-chare-requires Inv-loop μ-loop
+start-chare-requires c κs = search needs
+
+add-c : tie.Need-add-c Inv-loop μ-loop
+add-c c = search needs
+
+loop-less : tie.Need-loop-less Inv-loop μ-loop
+loop-less c = search needs
+
+loop-again : tie.Need-loop-again Inv-loop μ-loop
+loop-again c =
+    let l = c .before .before .before .before .before in
+    (search needs, search needs, search needs, c .before .before .start-chare .ensures ∙ ap (λ v. started v (l .loop .c)) (l .loop .inv .3) ∙ below-more _ _ (l .loop .c) (l .loop .inv .0) (omega arith))
+
+same-length : tie.Need-same-length Inv-loop μ-loop
+same-length c = search needs
+
+returns : tie.Need-returns Inv-loop μ-loop
+returns c =
+    let l = c .before .loop in
+    l .inv .3 ∙ below-end _ _ (l .c) (omega arith)
+
+pub start-chares-spec : {M : Type 1} → statement M
+start-chares-spec =
+    tie.close
+    (tie.spec
+    Inv-loop
+    μ-loop
+    loop-holds
+    start-chare-requires
+    add-c
+    loop-less
+    loop-again
+    same-length
+    returns)
