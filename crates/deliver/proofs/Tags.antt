@@ -1,0 +1,25 @@
+-- What is left of an enum where a pattern did not fit, by the tags of its other variants.
+use mathlib.Core.Path.{_≡_, refl}
+use mathlib.Core.Logic.{_⊎_, inl, inr}
+use mathlib.Core.List.{[], _∷_}
+use Prim.Native.Nat.{ℕ}
+use native.Mathlib.Omega.{arith}
+use denote.Enum.Declared.{tagOf}
+use types.Run.{OneOf, miss}
+use Rattle.protocol.specs.declared.Lookup.{Lookup}
+use Rattle.protocol.specs.declared.Lookup.the-variants.{Missing, Ticketed, Unticketed}
+use Rattle.protocol.specs.declared.Content.{Content}
+use Rattle.protocol.specs.declared.Content.the-variants.{Note as NOTE}
+use Rattle.protocol.proofs.Lookup as lookup
+use Rattle.protocol.proofs.Content as content
+
+-- no message without a TN
+pub no-unticketed : (o : Lookup) → OneOf (0 ∷ 1 ∷ []) (tagOf lookup.the-type o) → (o ≡ Missing) ⊎ (o ≡ Ticketed)
+no-unticketed Missing k = inl refl
+no-unticketed Ticketed k = inr refl
+no-unticketed (Unticketed x) (inl e) = absurd (omega arith)
+no-unticketed (Unticketed x) (inr e) = absurd (omega arith)
+
+-- no NOTE
+pub no-note : (c : Content) → OneOf (0 ∷ 1 ∷ 2 ∷ 3 ∷ 4 ∷ 6 ∷ []) (tagOf content.the-type c) → (t : ℕ) → c ≡ NOTE t → ⊥
+no-note c k t e = miss (0 ∷ 1 ∷ 2 ∷ 3 ∷ 4 ∷ 6 ∷ []) 5 tt (rw e at k)

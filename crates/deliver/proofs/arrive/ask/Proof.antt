@@ -1,0 +1,275 @@
+-- `ask`: an entry found, the SN worked, a refusal, or a new ticket.
+use mathlib.Core.Option.{none}
+use mathlib.Core.Path.{_≡_, refl, sym, ap, _∙_}
+use mathlib.Core.Bool.{false}
+use Prim.Native.Nat.{_-_}
+use native.Mathlib.Omega.{arith}
+use native.Mathlib.Nat.{mod-eq-of-lt}
+use borrow.Author.Needs.{needs}
+use borrow.Author.Tests.{not-true, not-false}
+use lib.ListN.{length}
+use Rattle.lists.specs.Questions.{ok}
+use Rattle.arrays.specs.Front.{push}
+use Rattle.protocol.specs.Packets.{is-worked}
+use Rattle.protocol.specs.Tickets.{entry, new-tn, unreceived}
+use Rattle.protocol.specs.declared.Content.the-variants.{GrantNew as GRANT-new}
+use Rattle.words.specs.Part.{part, part-length}
+use Rattle.tickets.specs.Table.{found-entry}
+use Rattle.memory.specs.Places.{TABLE, ROW}
+use Rattle.memory.specs.View.{memory-view, table-part, table-changed}
+use Rattle.deliver.specs.Effect.{answering}
+use Rattle.deliver.specs.EffectLaws.{ask-found, ask-worked, ask-new, tn-passes, not-admitted, table-full, entered, worked-by, tn-by}
+use Rattle.deliver.specs.View.{effect-of, reply-of, replying, refusing}
+use Rattle.deliver.proofs.arrive.ask.Statement.{statement}
+use Rattle.deliver.proofs.arrive.ask.Tie as tie
+
+-- ---- the places on the way, from the end to the beginning
+abbrev find-of : tie.After-worked → tie.After-find
+find-of c = c .before .before .before .before .before .before .before
+
+abbrev start-of : tie.After-worked → tie.Start
+start-of c = find-of c .before .before .before .before
+
+abbrev else-of : tie.After-next-tn → tie.Else1
+else-of c = c .before .before .before .before .before .before .before
+
+abbrev worked-of : tie.After-next-tn → tie.After-worked
+worked-of c = else-of c .before
+
+-- ---- what was found there, of the memory as it came
+mark-of : (c : tie.After-worked) → c .before .before .before .mark .result ≡ memory-view (start-of c .args .m .now) .mark (start-of c .args .sender)
+mark-of c = c .before .before .before .mark .ensures
+
+worked-at : (c : tie.After-worked) → c .worked .result ≡ is-worked (memory-view (start-of c .args .m .now)) (start-of c .args .sender) (start-of c .args .sn)
+worked-at c = c .worked .ensures ∙ worked-by _ _ _ _ _ (mark-of c) (c .before .window .ensures)
+
+not-worked : (c : tie.Else1) → is-worked (memory-view (start-of (c .before) .args .m .now)) (start-of (c .before) .args .sender) (start-of (c .before) .args .sn) ≡ false
+not-worked c = sym (worked-at (c .before)) ∙ c .if1 .left
+
+no-entry : (c : tie.After-worked) → entry (memory-view (start-of c .args .m .now) .table) (start-of c .args .sender) (start-of c .args .sn) ≡ none
+unfolding found-entry
+no-entry c =
+    let a = start-of c .args in
+    ap (λ l. entry l (a .sender) (a .sn)) (table-part (a .m .now)) ∙ sym (find-of c .find .ensures) ∙ ap found-entry (c .before .before .before .before .before .enum-told .given .1)
+
+tn-at : (c : tie.After-next-tn) → c .next-tn .result ≡ new-tn (memory-view (start-of (worked-of c) .args .m .now))
+tn-at c = c .next-tn .ensures ∙ tn-by _ _ _ _ (c .before .before .before .before .before .height .ensures) (c .before .before .before .top .ensures) (sym (table-part _))
+
+sub-find : tie.Need-sub-find
+sub-find c = search needs
+
+part-find-start : tie.Need-part-find-start
+part-find-start c = search needs
+
+part-find-end : tie.Need-part-find-end
+part-find-end c = search needs
+
+find-requires : tie.Need-find-requires
+find-requires c κs = search needs
+
+enum-known-e : tie.Need-enum-known-e
+enum-known-e c = search needs
+
+grant-of-requires : tie.Need-grant-of-requires
+grant-of-requires c κs = search needs
+
+replied-requires : tie.Need-replied-requires
+replied-requires c κs = search needs
+
+same-length : tie.Need-same-length
+same-length c = search needs
+
+returns : tie.Need-returns
+unfolding effect-of reply-of found-entry
+returns c =
+    let f = c .before .before .before in
+    let k = f .before .before in
+    let a = k .before .before .before .before .args in
+    replying (a .m .now) _ _ _ (c .replied .ensures) (rw (c .before .grant-of .ensures) (ask-found _ _ _ _ _ (ap (λ l. entry l (a .sender) (a .sn)) (table-part (a .m .now)) ∙ sym (k .find .ensures) ∙ ap found-entry (f .e .given .1))))
+
+enum-told : tie.Need-enum-told
+enum-told c = search needs
+
+mark-requires : tie.Need-mark-requires
+mark-requires c κs = search needs
+
+window-requires : tie.Need-window-requires
+window-requires c κs = search needs
+
+worked-requires : tie.Need-worked-requires
+worked-requires c κs = search needs
+
+replied-requires-2 : tie.Need-replied-requires-2
+replied-requires-2 c κs = search needs
+
+same-length-2 : tie.Need-same-length-2
+same-length-2 c = search needs
+
+returns-2 : tie.Need-returns-2
+unfolding effect-of reply-of
+returns-2 c =
+    let w = c .before .before in
+    replying (start-of w .args .m .now) _ _ _ (c .replied2 .ensures) (ask-worked _ _ _ _ _ (no-entry w) (sym (worked-at w) ∙ c .before .if1 .taken))
+
+height-requires : tie.Need-height-requires
+height-requires c κs = search needs
+
+top-requires : tie.Need-top-requires
+top-requires c κs = search needs
+
+sub-next-tn : tie.Need-sub-next-tn
+sub-next-tn c = search needs
+
+part-next-tn-start : tie.Need-part-next-tn-start
+part-next-tn-start c = search needs
+
+part-next-tn-end : tie.Need-part-next-tn-end
+part-next-tn-end c = search needs
+
+next-tn-requires : tie.Need-next-tn-requires
+next-tn-requires c κs = search needs
+
+refused-requires : tie.Need-refused-requires
+refused-requires c κs = search needs
+
+same-length-3 : tie.Need-same-length-3
+same-length-3 c = search needs
+
+returns-3 : tie.Need-returns-3
+returns-3 c =
+    let t = c .before .before in
+    let w = worked-of t in
+    refusing (start-of w .args .m .now) _ _ 7 (omega arith) (c .refused .ensures)
+    (tn-passes _ _ _ (omega (arith, tn-at t)) ∙ ask-new _ _ _ _ _ (no-entry w) (not-worked (else-of t))) refl
+
+admitted-requires : tie.Need-admitted-requires
+admitted-requires c κs = search needs
+
+refused-requires-2 : tie.Need-refused-requires-2
+refused-requires-2 c κs = search needs
+
+same-length-4 : tie.Need-same-length-4
+same-length-4 c = search needs
+
+returns-4 : tie.Need-returns-4
+returns-4 c =
+    let d = c .before .before in
+    let t = d .before .before in
+    let w = worked-of t in
+    refusing (start-of w .args .m .now) _ _ 8 (omega arith) (c .refused2 .ensures)
+    (not-admitted _ _ _ (omega (arith, tn-at t)) (rw (← mark-of w) (sym (d .admitted .ensures) ∙ not-true _ (c .before .if3 .taken))) ∙ ask-new _ _ _ _ _ (no-entry w) (not-worked (else-of t))) refl
+
+sub-count : tie.Need-sub-count
+sub-count c = search needs
+
+part-count-start : tie.Need-part-count-start
+part-count-start c = search needs
+
+part-count-end : tie.Need-part-count-end
+part-count-end c = search needs
+
+count-requires : tie.Need-count-requires
+count-requires c κs = search needs
+
+refused-requires-3 : tie.Need-refused-requires-3
+refused-requires-3 c κs = search needs
+
+same-length-5 : tie.Need-same-length-5
+same-length-5 c = search needs
+
+returns-5 : tie.Need-returns-5
+returns-5 c =
+    let n = c .before .before in
+    let d = n .before .before .before .before in
+    let t = d .before .before in
+    let w = worked-of t in
+    let a = start-of w .args in
+    refusing (a .m .now) _ _ 10 (omega arith) (c .refused3 .ensures)
+    (table-full _ _ _ (omega (arith, tn-at t)) (rw (← mark-of w) (sym (d .admitted .ensures) ∙ not-false _ (n .before .before .before .if3 .left))) (rw (table-part (a .m .now)) (omega (arith, n .count .ensures))) ∙ ask-new _ _ _ _ _ (no-entry w) (not-worked (else-of t))) refl
+
+cast-n : tie.Need-cast-n
+cast-n c = search needs
+
+sub-enter : tie.Need-sub-enter
+sub-enter c = search needs
+
+part-enter-start : tie.Need-part-enter-start
+part-enter-start c = search needs
+
+part-enter-end : tie.Need-part-enter-end
+part-enter-end c = search needs
+
+enter-requires : tie.Need-enter-requires
+enter-requires c κs = search needs
+
+replied-requires-3 : tie.Need-replied-requires-3
+replied-requires-3 c κs = search needs
+
+same-length-6 : tie.Need-same-length-6
+same-length-6 c = search needs
+
+returns-6 : tie.Need-returns-6
+unfolding effect-of reply-of
+returns-6 c =
+    let x = c .before .before .before in
+    let g = x .before .before in
+    let n = g .before in
+    let d = n .before .before .before .before in
+    let t = d .before .before in
+    let w = worked-of t in
+    let a = start-of w .args in
+    let size = start-of w .pre .0 in
+    let z : length (part TABLE ROW (a .m .now)) - 1 ≡ 16 = omega (arith, part-length TABLE ROW (a .m .now) (omega (arith, size))) in
+    replying (a .m .now) _ _ _ (c .replied3 .ensures)
+    (ap (λ m. ok (answering m (GRANT-new (t .next-tn .result)))) (table-changed (a .m .now) (x .enter .last .0) size (omega arith) (λ l. push 16 l (unreceived (a .sender) (a .sn) (t .next-tn .result))) (rw (z, mod-eq-of-lt (start-of w .pre .1)) at (x .enter .ensures)))
+    ∙ entered _ _ _ (omega (arith, tn-at t)) (rw (← mark-of w) (sym (d .admitted .ensures) ∙ not-false _ (n .before .before .before .if3 .left))) (rw (table-part (a .m .now)) (omega (arith, n .count .ensures))) _ _ (tn-at t) refl
+    ∙ ask-new _ _ _ _ _ (no-entry w) (not-worked (else-of t)))
+
+pub ask-spec : {M : Type 1} → statement M
+ask-spec =
+    tie.close
+    (tie.spec
+    sub-find
+    part-find-start
+    part-find-end
+    find-requires
+    enum-known-e
+    grant-of-requires
+    replied-requires
+    same-length
+    returns
+    enum-told
+    mark-requires
+    window-requires
+    worked-requires
+    replied-requires-2
+    same-length-2
+    returns-2
+    height-requires
+    top-requires
+    sub-next-tn
+    part-next-tn-start
+    part-next-tn-end
+    next-tn-requires
+    refused-requires
+    same-length-3
+    returns-3
+    admitted-requires
+    refused-requires-2
+    same-length-4
+    returns-4
+    sub-count
+    part-count-start
+    part-count-end
+    count-requires
+    refused-requires-3
+    same-length-5
+    returns-5
+    cast-n
+    sub-enter
+    part-enter-start
+    part-enter-end
+    enter-requires
+    replied-requires-3
+    same-length-6
+    returns-6)

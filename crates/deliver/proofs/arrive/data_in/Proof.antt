@@ -1,0 +1,104 @@
+-- `data_in`: no entry, a received one, or one that is filled.
+use mathlib.Core.Path.{_∙_, ap, sym}
+use Prim.Native.Nat.{_%_}
+use native.Mathlib.Omega.{arith}
+use borrow.Author.Needs.{needs}
+use borrow.Author.Tests.{not-true, not-false}
+use Rattle.protocol.specs.Tickets.{entry, filled}
+use Rattle.tickets.specs.Table.{found-entry}
+use Rattle.memory.specs.View.{table-part, table-changed}
+use Rattle.deliver.specs.Effect.{quiet}
+use Rattle.deliver.specs.EffectLaws.{data-no-entry, data-received, data-fills}
+use Rattle.deliver.specs.View.{effect-of, reply-of}
+use Rattle.deliver.proofs.arrive.data_in.Statement.{statement}
+use Rattle.deliver.proofs.arrive.data_in.Tie as tie
+
+sub-find : tie.Need-sub-find
+sub-find c = search needs
+
+part-find-start : tie.Need-part-find-start
+part-find-start c = search needs
+
+part-find-end : tie.Need-part-find-end
+part-find-end c = search needs
+
+find-requires : tie.Need-find-requires
+find-requires c κs = search needs
+
+enum-known-e : tie.Need-enum-known-e
+enum-known-e c = search needs
+
+sub-fill : tie.Need-sub-fill
+sub-fill c = search needs
+
+part-fill-start : tie.Need-part-fill-start
+part-fill-start c = search needs
+
+part-fill-end : tie.Need-part-fill-end
+part-fill-end c = search needs
+
+fill-requires : tie.Need-fill-requires
+fill-requires c κs = search needs
+
+enum-told : tie.Need-enum-told
+enum-told c = search needs
+
+same-length : tie.Need-same-length
+same-length c = search needs
+
+returns : tie.Need-returns
+unfolding effect-of reply-of found-entry
+returns c =
+    let t = c .before .before in
+    let i = t .before .before in
+    let x = i .before .before .before in
+    let k = x .before .before in
+    let st = k .before .before .before .before in
+    let a = st .args in
+    let e = ap (λ l. entry l (a .sender) (a .sn)) (table-part (a .m .now)) ∙ sym (k .find .ensures) ∙ ap found-entry (x .e .given .1) in
+    ap quiet (table-changed (a .m .now) (t .fill .last .0) (st .pre) (omega arith) (filled (a .sender) (a .sn) (a .value) (a .hops % 8)) (t .fill .ensures))
+    ∙ data-fills _ _ _ _ _ e (not-true _ (i .if1 .taken))
+
+same-length-2 : tie.Need-same-length-2
+same-length-2 c = search needs
+
+returns-2 : tie.Need-returns-2
+unfolding effect-of reply-of found-entry
+returns-2 c =
+    let x = c .before .before .before in
+    let k = x .before .before in
+    let a = k .before .before .before .before .args in
+    let e = ap (λ l. entry l (a .sender) (a .sn)) (table-part (a .m .now)) ∙ sym (k .find .ensures) ∙ ap found-entry (x .e .given .1) in
+    data-received _ _ _ _ _ e (not-false _ (c .if1 .left))
+
+same-length-3 : tie.Need-same-length-3
+same-length-3 c = search needs
+
+returns-3 : tie.Need-returns-3
+unfolding effect-of reply-of found-entry
+returns-3 c =
+    let k = c .before .before in
+    let a = k .before .before .before .before .args in
+    let e = ap (λ l. entry l (a .sender) (a .sn)) (table-part (a .m .now)) ∙ sym (k .find .ensures) ∙ ap found-entry (c .enum-told .given .1) in
+    data-no-entry _ _ _ _ _ e
+
+pub data-in-spec : {M : Type 1} → statement M
+data-in-spec =
+    tie.close
+    (tie.spec
+    sub-find
+    part-find-start
+    part-find-end
+    find-requires
+    enum-known-e
+    sub-fill
+    part-fill-start
+    part-fill-end
+    fill-requires
+    enum-told
+    same-length
+    returns
+    same-length-2
+    returns-2
+    same-length-3
+    returns-3)

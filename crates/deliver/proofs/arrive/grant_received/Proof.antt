@@ -1,0 +1,81 @@
+-- `grant_received`: the message without a TN gets it.
+use mathlib.Core.Path.{_∙_, ap, sym}
+use native.Mathlib.Omega.{arith}
+use borrow.Author.Needs.{needs}
+use Rattle.protocol.specs.Packets.{lookup, ticketed}
+use Rattle.memory.specs.View.{log-part, log-changed}
+use Rattle.deliver.specs.Effect.{quiet, grant-received-effect}
+use Rattle.deliver.specs.EffectLaws.{dropped, taken-out}
+use Rattle.deliver.specs.View.{effect-of, reply-of}
+use Rattle.deliver.proofs.Tags.{no-unticketed}
+use Rattle.deliver.proofs.arrive.grant_received.Statement.{statement}
+use Rattle.deliver.proofs.arrive.grant_received.Tie as tie
+
+sub-lookup : tie.Need-sub-lookup
+sub-lookup c = search needs
+
+part-lookup-start : tie.Need-part-lookup-start
+part-lookup-start c = search needs
+
+part-lookup-end : tie.Need-part-lookup-end
+part-lookup-end c = search needs
+
+lookup-requires : tie.Need-lookup-requires
+lookup-requires c κs = search needs
+
+enum-told : tie.Need-enum-told
+enum-told c = search needs
+
+same-length : tie.Need-same-length
+same-length c = search needs
+
+returns : tie.Need-returns
+unfolding effect-of reply-of grant-received-effect
+returns c =
+    let k = c .before in
+    let a = k .before .before .before .before .args in
+    dropped _ _ (k .lookup .ensures ∙ ap (λ l. lookup l (a .receiver) (a .sn)) (sym (log-part (a .m .now)))) (no-unticketed _ (c .match .keys2))
+
+sub-set-ticket : tie.Need-sub-set-ticket
+sub-set-ticket c = search needs
+
+part-set-ticket-start : tie.Need-part-set-ticket-start
+part-set-ticket-start c = search needs
+
+part-set-ticket-end : tie.Need-part-set-ticket-end
+part-set-ticket-end c = search needs
+
+set-ticket-requires : tie.Need-set-ticket-requires
+set-ticket-requires c κs = search needs
+
+same-length-2 : tie.Need-same-length-2
+same-length-2 c = search needs
+
+returns-2 : tie.Need-returns-2
+unfolding effect-of reply-of grant-received-effect
+returns-2 c =
+    let t = c .before .before in
+    let x = t .before .before in
+    let k = x .before .before in
+    let st = k .before .before .before .before in
+    let a = st .args in
+    ap quiet (log-changed (a .m .now) (t .set-ticket .last .0) (st .pre) (omega arith) (ticketed (a .receiver) (a .sn) (a .tn)) (t .set-ticket .ensures))
+    ∙ taken-out _ _ (k .lookup .ensures ∙ ap (λ l. lookup l (a .receiver) (a .sn)) (sym (log-part (a .m .now)))) (x .enum-told .given .1)
+
+pub grant-received-spec : {M : Type 1} → statement M
+grant-received-spec =
+    tie.close
+    (tie.spec
+    sub-lookup
+    part-lookup-start
+    part-lookup-end
+    lookup-requires
+    enum-told
+    same-length
+    returns
+    sub-set-ticket
+    part-set-ticket-start
+    part-set-ticket-end
+    set-ticket-requires
+    same-length-2
+    returns-2)

@@ -1,0 +1,66 @@
+-- `note`: present, no room, or stored.
+use mathlib.Core.Path.{_≡_, refl, sym, _∙_}
+use Prim.Native.Nat.{_-_}
+use native.Mathlib.Omega.{arith}
+use borrow.Author.Needs.{needs}
+use lib.ListN.{length}
+use Rattle.protocol.specs.Packets.{note-of}
+use Rattle.notelist.specs.Fits.{fitted-same}
+use Rattle.deliver.specs.NoteEffect.{note-present, notes-full, note-stored}
+use Rattle.deliver.specs.View.{passes, stops}
+use Rattle.deliver.proofs.note.Statement.{statement}
+use Rattle.deliver.proofs.note.Tie as tie
+
+has-requires : tie.Need-has-requires
+has-requires c κs = search needs
+
+same-length : tie.Need-same-length
+same-length c = search needs
+
+returns : tie.Need-returns
+unfolding note-of
+returns c = passes 0 refl (note-present _ _ (sym (c .before .has .ensures) ∙ c .if1 .taken))
+
+count-requires : tie.Need-count-requires
+count-requires c κs = search needs
+
+same-length-2 : tie.Need-same-length-2
+same-length-2 c = search needs
+
+returns-2 : tie.Need-returns-2
+unfolding note-of
+returns-2 c =
+    let n = c .before in
+    let x = n .before .before in
+    stops 10 (λ e. omega arith) (notes-full _ _ (sym (x .before .has .ensures) ∙ x .if1 .left) (omega (arith, n .count .ensures))) refl
+
+push-requires : tie.Need-push-requires
+push-requires c κs = search needs
+
+same-length-3 : tie.Need-same-length-3
+same-length-3 c = search needs
+
+returns-3 : tie.Need-returns-3
+unfolding note-of
+returns-3 c =
+    let u = c .before .before in
+    let n = u .before .before .before in
+    let x = n .before .before in
+    let st = x .before .before .before .before in
+    let z : length (st .args .ws .now) - 1 ≡ 64 = omega (arith, st .pre .0) in
+    passes 0 refl (note-stored _ _ (sym (x .before .has .ensures) ∙ x .if1 .left) (omega (arith, n .count .ensures)) _
+    (u .push .ensures ∙ rw (z, fitted-same (note-of (st .args .p) (st .args .tn)) (st .pre .1 .sender) (st .pre .1 .receiver))))
+
+pub note-spec : {M : Type 1} → statement M
+note-spec =
+    tie.close
+    (tie.spec
+    has-requires
+    same-length
+    returns
+    count-requires
+    same-length-2
+    returns-2
+    push-requires
+    same-length-3
+    returns-3)

@@ -1,0 +1,57 @@
+-- Frame 11 as a whole: its questions before the packet is sought, the state after it, and what becomes of a packet found.
+use mathlib.Core.Bool.{Bool, not, _&&_}
+use mathlib.Core.List.{List, [], _∷_}
+use mathlib.Core.Option.{Option, some, none}
+use Prim.Native.Nat.{ℕ, _<_}
+use lib.Dec.{leb}
+use lib.ListN.{length}
+use Rattle.lists.specs.Questions.{asks}
+use Rattle.protocol.specs.declared.Answer.the-variants.{Accepted}
+use Rattle.protocol.specs.declared.Packet.{Packet}
+use Rattle.protocol.specs.declared.Status.{Status}
+use Rattle.protocol.specs.Parts.{Job, State, most, with-wire}
+use Rattle.protocol.specs.Frames.{between}
+use Rattle.protocol.specs.Packets.{destination, deliver, note-of}
+use Rattle.protocol.specs.Step.{Outcome, judged}
+use Rattle.words.specs.Rows.{without}
+use Rattle.head.specs.Head.{runs}
+use Rattle.packets.specs.Fits.{Fits}
+use Rattle.deliver.specs.More.{then}
+use Rattle.deliver.specs.Effect.{effect, effect-questions}
+use Rattle.deliver.specs.NoteEffect.{note-effect, note-questions}
+use Rattle.deliver.specs.Arrival.{put-effect, put-notes}
+
+unfoldable pub delivered : State → ℕ → ℕ → ℕ → ℕ → Option Packet → State
+delivered s k a r n none = s
+delivered s k a r n (some p) = deliver s k a r n p
+
+unfoldable pub in-range : Job → ℕ → ℕ → ℕ → ℕ → Bool
+in-range j k a r n = between 1 5 k && leb a (j .chares) && between 1 (j .chares) r && between 1 most n
+
+-- questions 2 to 5
+unfoldable pub first-questions : Job → Bool → (ℕ → Status) → ℕ → ℕ → ℕ → ℕ → List Bool
+first-questions j lost status k a r n =
+    j .set ∷ in-range j k a r n ∷ not lost ∷ runs status (destination j k a r) ∷ []
+
+-- the outcome of a frame with every question answered "yes"
+abbrev pub done : State → Outcome
+done s = record { state = s; answer = Accepted }
+
+-- the state once the packet at a place has left the wire
+abbrev pub taken-off : State → ℕ → State
+taken-off s at = with-wire s (without at (s .wire))
+
+-- a packet, such as a word can hold, is at a place on the wire
+pub record Waits (s : State) (at : ℕ) (p : Packet) : Type 0 where
+  pub fits : Fits p
+  pub here : at < length (s .wire)
+
+-- the packet p, at a place on the wire, comes to the memory of chare c
+unfoldable pub chare-outcome : State → ℕ → ℕ → Packet → Outcome
+chare-outcome s c at p = judged s (then (λ e. done (put-effect (taken-off s at) c p e)) (asks 7 (effect-questions (s .live c) p (p .content)) (effect (s .live c) p (p .content))))
+
+-- as a NOTE of the TN t, it comes to the note list for the receiver's machine
+unfoldable pub note-outcome : State → ℕ → Packet → ℕ → Outcome
+note-outcome s at p t =
+    let h = s .job .home (p .receiver) in
+    judged s (then (λ l. done (put-notes (taken-off s at) h p l)) (asks 7 (note-questions (s .notes h) (note-of p t)) (note-effect (s .notes h) (note-of p t))))

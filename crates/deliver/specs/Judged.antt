@@ -1,0 +1,78 @@
+-- Frame 11 judged, in the definitions' state: by its first questions, by the packet found, and by what the packet does.
+use mathlib.Core.Path.{_≡_, refl, sym, ap, _∙_}
+use mathlib.Core.Bool.{Bool}
+use mathlib.Core.List.{List, _++_}
+use mathlib.Core.Option.{some, none}
+use Prim.Native.Nat.{ℕ}
+use Rattle.lists.specs.Lists.{remove1}
+use Rattle.lists.specs.Questions.{asks, first-no, first-no-yes, asks-no, asks-after}
+use Rattle.protocol.specs.declared.Answer.the-variants.{Refused}
+use Rattle.protocol.specs.declared.Packet.{Packet}
+use Rattle.protocol.specs.declared.Content.the-variants.{Note as NOTE}
+use Rattle.protocol.specs.Parts.{State, up}
+use Rattle.protocol.specs.Packets.{is-named, arrive, deliver}
+use Rattle.protocol.specs.Questions.{is-chare, is-sender, on-wire, packet-questions, deliver-questions}
+use Rattle.protocol.specs.Step.{Outcome, judged}
+use Rattle.words.specs.Rows.{without}
+use Rattle.head.specs.Head.{runs}
+use Rattle.store.specs.View.{tried}
+use Rattle.deliver.specs.More.{then, asks-then}
+use Rattle.deliver.specs.Effect.{place-of}
+use Rattle.deliver.specs.Arrival.{put-effect, put-notes, ticket-questions, arrive-back, arrive-notes, arrive-questioned, notes-questioned}
+use Rattle.deliver.specs.Frame.{in-range, first-questions, delivered, done, taken-off, chare-outcome, note-outcome}
+
+module _ (s : State) (k a r n : ℕ) where
+  -- what the contract says of the frame
+  abbrev pub the-outcome : Outcome
+  the-outcome = tried s (deliver-questions s k a r n) (delivered s k a r n (on-wire s k a r n))
+
+  abbrev pub firsts : ℕ
+  firsts = first-no 2 (first-questions (s .job) (s .lost) (s .status) k a r n)
+
+  -- questions 2 to 5, and those to the packet
+  module _ (t : State) where
+    in-parts : tried s (deliver-questions s k a r n) t
+        ≡ judged s (asks 2 (first-questions (s .job) (s .lost) (s .status) k a r n ++ packet-questions s (on-wire s k a r n)) (done t))
+    unfolding tried deliver-questions first-questions in-range runs is-sender is-chare up
+    in-parts = refl
+
+    stopped : (firsts ≡ 0 → ⊥) → tried s (deliver-questions s k a r n) t ≡ record { state = s; answer = Refused firsts }
+    unfolding judged
+    stopped h = in-parts ∙ ap (judged s) (asks-no 2 (first-questions (s .job) (s .lost) (s .status) k a r n) (packet-questions s (on-wire s k a r n)) (done t) h)
+
+    passed : firsts ≡ 0 → tried s (deliver-questions s k a r n) t ≡ judged s (asks 6 (packet-questions s (on-wire s k a r n)) (done t))
+    unfolding first-questions
+    passed clear =
+        let l = first-questions (s .job) (s .lost) (s .status) k a r n in
+        in-parts ∙ ap (judged s) (asks-after 2 l (packet-questions s (on-wire s k a r n)) (done t) (first-no-yes 1 l clear))
+
+  pub refused-first : (firsts ≡ 0 → ⊥) → record { state = s; answer = Refused firsts } ≡ the-outcome
+  refused-first h = sym (stopped _ h)
+
+  module _ (clear : firsts ≡ 0) where
+    pub refused-missing : on-wire s k a r n ≡ none → record { state = s; answer = Refused 6 } ≡ the-outcome
+    unfolding judged packet-questions asks
+    refused-missing e = sym (passed _ clear ∙ rw e)
+
+    -- the packet p is found, at a place
+    module _ {p : Packet} (found : on-wire s k a r n ≡ some p) (at : ℕ) (left : remove1 (is-named k a r n) (s .wire) ≡ without at (s .wire)) where
+      judged-packet : the-outcome ≡ judged s (asks 7 (ticket-questions s p (p .content)) (done (arrive (taken-off s at) p (p .content))))
+      unfolding packet-questions asks ticket-questions delivered deliver
+      judged-packet = passed _ clear ∙ rw (found, left)
+
+      -- what follows is f of what a part of the state gives
+      by-part : {X : Type 0} (f : X → State) (x : X) (l : List Bool) → ticket-questions s p (p .content) ≡ l → arrive (taken-off s at) p (p .content) ≡ f x → judged s (then (λ y. done (f y)) (asks 7 l x)) ≡ the-outcome
+      by-part f x l h e =
+          sym (judged-packet ∙ ap (judged s) (rw (h, e) (asks-then (λ y. done (f y)) 7 l x)))
+
+      -- at the memory of a chare
+      pub judged-chare : ((t : ℕ) → p .content ≡ NOTE t → ⊥) → (c : ℕ) → c ≡ place-of p (p .content) → chare-outcome s c at p ≡ the-outcome
+      unfolding chare-outcome
+      judged-chare other c e = rw e (by-part (put-effect (taken-off s at) (place-of p (p .content)) p) _ _ (arrive-questioned s p (p .content) other) (arrive-back (taken-off s at) p (p .content) other))
+
+      -- at the note list of the receiver's machine
+      pub judged-note : {t : ℕ} → p .content ≡ NOTE t → note-outcome s at p t ≡ the-outcome
+      unfolding note-outcome
+      judged-note {t} is-note = by-part (put-notes (taken-off s at) (s .job .home (p .receiver)) p) _ _
+          (ap (ticket-questions s p) is-note ∙ notes-questioned s p t)
+          (ap (arrive (taken-off s at) p) is-note ∙ arrive-notes (taken-off s at) p t)

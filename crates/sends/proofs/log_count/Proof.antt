@@ -1,0 +1,31 @@
+use Rattle.sends.specs.Reading.{log-top}
+use Rattle.memory.specs.View.{log-part}
+use native.Mathlib.Omega.{arith}
+use borrow.Author.Needs.{needs}
+use Rattle.sends.proofs.log_count.Statement.{statement}
+use Rattle.sends.proofs.log_count.Tie as tie
+
+sub-count : tie.Need-sub-count
+sub-count c = search needs
+
+part-count-start : tie.Need-part-count-start
+part-count-start c = search needs
+
+part-count-end : tie.Need-part-count-end
+part-count-end c = search needs
+
+count-requires : tie.Need-count-requires
+count-requires c κs = search needs
+
+cast-result : tie.Need-cast-result
+cast-result c = let st = c .before .before .before in omega (arith, log-top (st .args .m .now) (st .pre), c .count .ensures)
+
+returns : tie.Need-returns
+returns c =
+    let st = c .before .before .before in
+    (rw (log-part (st .args .m .now)) (c .count .ensures), omega (arith, log-top (st .args .m .now) (st .pre), c .count .ensures))
+
+pub log-count-spec : {M : Type 1} → statement M
+log-count-spec =
+    tie.close
+    (tie.spec sub-count part-count-start part-count-end count-requires cast-result returns)

@@ -1,0 +1,86 @@
+use Rattle.sends.specs.Ticket.{to-wire}
+use Rattle.sends.specs.InMemory.{about-fits}
+use Rattle.packets.specs.Words.{fit-content}
+use Rattle.protocol.specs.declared.Content.the-variants.{Ask, Note}
+use lib.ListN.{length}
+use native.Mathlib.Omega.{arith}
+use Prim.Native.Nat.{_-_}
+use mathlib.Core.Path.{_≡_, refl, _∙_}
+use borrow.Author.Needs.{needs}
+use Rattle.sends.proofs.message.put.Statement.{statement}
+use Rattle.sends.proofs.message.put.Tie as tie
+
+enum-told : tie.Need-enum-told
+enum-told c = search needs
+
+about-requires : tie.Need-about-requires
+about-requires c κs = search needs
+
+join-requires : tie.Need-join-requires
+join-requires c κs = search needs
+
+enum-told-2 : tie.Need-enum-told-2
+enum-told-2 c = search needs
+
+enum-known-k : tie.Need-enum-known-k
+enum-known-k c = search needs
+
+about-requires-2 : tie.Need-about-requires-2
+about-requires-2 c κs = search needs
+
+join-requires-2 : tie.Need-join-requires-2
+join-requires-2 c κs = search needs
+
+enum-told-3 : tie.Need-enum-told-3
+enum-told-3 c = search needs
+
+same-length : tie.Need-same-length
+same-length c = search needs
+
+returns : tie.Need-returns
+unfolding to-wire fit-content
+returns c =
+    let j = c .before .before in
+    let t = j .before .before .before in
+    let st = t .before .before .before in
+    let a = st .args in
+    let n : length (a .ws .now) - 1 ≡ 128 = omega (arith, st .pre .0) in
+    rw (t .enum-told .given .1) (j .join .ensures ∙ rw (n, j .before .about .ensures, about-fits (a .m) Ask (st .pre .1 .0) (st .pre .1 .1) (search needs) refl))
+
+returns-2 : tie.Need-returns-2
+returns-2 c = unfold to-wire in rw (c .enum-told2 .given .1)
+
+same-length-2 : tie.Need-same-length-2
+same-length-2 c = search needs
+
+returns-3 : tie.Need-returns-3
+unfolding to-wire fit-content
+returns-3 c =
+    let j = c .before .before in
+    let t = j .before .before .before .before in
+    let st = t .before .before .before in
+    let a = st .args in
+    let n : length (a .ws .now) - 1 ≡ 128 = omega (arith, st .pre .0) in
+    rw (t .k .given .1) (j .join2 .ensures ∙ rw (n, j .before .about2 .ensures, about-fits (a .m) (Note _) (st .pre .1 .0) (st .pre .1 .1) (search needs) refl))
+
+returns-4 : tie.Need-returns-4
+returns-4 c = unfold to-wire in rw (c .enum-told3 .given .1)
+
+pub put-spec : {M : Type 1} → statement M
+put-spec =
+    tie.close
+    (tie.spec
+    enum-told
+    about-requires
+    join-requires
+    enum-told-2
+    enum-known-k
+    about-requires-2
+    join-requires-2
+    enum-told-3
+    same-length
+    returns
+    returns-2
+    same-length-2
+    returns-3
+    returns-4)

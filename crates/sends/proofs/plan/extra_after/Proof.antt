@@ -1,0 +1,51 @@
+use borrow.Author.Tests.{not-true, not-false}
+use Rattle.sends.specs.Plan.{extra-after}
+use borrow.Author.Needs.{needs}
+use Rattle.sends.proofs.plan.extra_after.Statement.{statement}
+use Rattle.sends.proofs.plan.extra_after.Tie as tie
+
+returns : tie.Need-returns
+unfolding extra-after
+returns c = rw (not-true (c .before .args .same) (c .if1 .taken))
+
+enum-told : tie.Need-enum-told
+enum-told c = search needs
+
+enum-told-2 : tie.Need-enum-told-2
+enum-told-2 c = search needs
+
+enum-told-3 : tie.Need-enum-told-3
+enum-told-3 c = search needs
+
+enum-told-4 : tie.Need-enum-told-4
+enum-told-4 c = search needs
+
+returns-2 : tie.Need-returns-2
+unfolding extra-after
+returns-2 c = rw (not-false (c .before .before .before .args .same) (c .before .before .if1 .left), c .enum-told .given .1)
+
+returns-3 : tie.Need-returns-3
+unfolding extra-after
+returns-3 c = rw (not-false (c .before .before .before .args .same) (c .before .before .if1 .left), c .enum-told2 .given .1)
+
+returns-4 : tie.Need-returns-4
+unfolding extra-after
+returns-4 c = rw (not-false (c .before .before .before .args .same) (c .before .before .if1 .left), c .enum-told3 .given .1)
+
+returns-5 : tie.Need-returns-5
+unfolding extra-after
+returns-5 c = rw (not-false (c .before .before .before .args .same) (c .before .before .if1 .left), c .enum-told4 .given .1)
+
+pub extra-after-spec : {M : Type 1} → statement M
+extra-after-spec =
+    tie.close
+    (tie.spec
+    returns
+    enum-told
+    enum-told-2
+    enum-told-3
+    enum-told-4
+    returns-2
+    returns-3
+    returns-4
+    returns-5)

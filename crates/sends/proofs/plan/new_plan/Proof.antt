@@ -1,0 +1,96 @@
+use Rattle.sends.specs.Plan.{new-plan}
+use Rattle.sends.specs.Reading.{table-top}
+use Rattle.memory.specs.Places.{TABLE, ROW}
+use Rattle.memory.specs.View.{table-part}
+use Rattle.words.specs.Part.{part}
+use Rattle.tickets.specs.Table.{entries}
+use Rattle.protocol.specs.Tickets.{next-tn}
+use borrow.Author.Tests.{le-leb, lt-leb}
+use native.Mathlib.Omega.{arith}
+use borrow.Author.Needs.{needs}
+use Rattle.sends.proofs.plan.new_plan.Statement.{statement}
+use Rattle.sends.proofs.plan.new_plan.Tie as tie
+
+top-requires : tie.Need-top-requires
+top-requires c κs = search needs
+
+sub-next-tn : tie.Need-sub-next-tn
+sub-next-tn c = search needs
+
+part-next-tn-start : tie.Need-part-next-tn-start
+part-next-tn-start c = search needs
+
+part-next-tn-end : tie.Need-part-next-tn-end
+part-next-tn-end c = search needs
+
+next-tn-requires : tie.Need-next-tn-requires
+next-tn-requires c κs = search needs
+
+idle-requires : tie.Need-idle-requires
+idle-requires c κs = search needs
+
+returns : tie.Need-returns
+returns c =
+    let n = c .before .before in
+    let t = n .before .before in
+    let a = t .before .before .args in
+    unfold new-plan in
+    rw (table-part (a .y .now), ← t .top .ensures, lt-leb (next-tn (a .base) (t .top .result) (entries (part TABLE ROW (a .y .now)))) 60000 (omega (arith, n .next-tn .ensures, c .before .if1 .taken))) (c .idle .ensures)
+
+mark-requires : tie.Need-mark-requires
+mark-requires c κs = search needs
+
+sub-count : tie.Need-sub-count
+sub-count c = search needs
+
+part-count-start : tie.Need-part-count-start
+part-count-start c = search needs
+
+part-count-end : tie.Need-part-count-end
+part-count-end c = search needs
+
+count-requires : tie.Need-count-requires
+count-requires c κs = search needs
+
+cast-t19 : tie.Need-cast-t19
+cast-t19 c = search needs
+
+admitted-requires : tie.Need-admitted-requires
+admitted-requires c κs = search needs
+
+add-t21 : tie.Need-add-t21
+add-t21 c =
+    let k = c .before in
+    let st = k .before .before .before .before .before .before .before .before in
+    omega (arith, table-top (st .args .y .now) (st .pre .0), k .count .ensures, st .pre .1)
+
+returns-2 : tie.Need-returns-2
+returns-2 c =
+    let k = c .before in
+    let m = k .before .before in
+    let n = m .before .before in
+    let t = n .before .before in
+    let a = t .before .before .args in
+    unfold new-plan in
+    rw (table-part (a .y .now), ← t .top .ensures, ← m .mark .ensures, le-leb (next-tn (a .base) (t .top .result) (entries (part TABLE ROW (a .y .now)))) 60000 (omega (arith, n .next-tn .ensures, m .before .if1 .left)), ← n .next-tn .ensures, ← k .count .ensures, ← c .admitted .ensures)
+
+pub new-plan-spec : {M : Type 1} → statement M
+new-plan-spec =
+    tie.close
+    (tie.spec
+    top-requires
+    sub-next-tn
+    part-next-tn-start
+    part-next-tn-end
+    next-tn-requires
+    idle-requires
+    returns
+    mark-requires
+    sub-count
+    part-count-start
+    part-count-end
+    count-requires
+    cast-t19
+    admitted-requires
+    add-t21
+    returns-2)

@@ -1,0 +1,30 @@
+use Rattle.sends.specs.Sends.{one-verdict}
+use Rattle.sends.specs.Room.{growth-top}
+use native.Mathlib.Omega.{arith}
+use borrow.Author.Needs.{needs}
+use Rattle.sends.proofs.verdict.one_verdict.Statement.{statement}
+use Rattle.sends.proofs.verdict.one_verdict.Tie as tie
+
+fits-requires : tie.Need-fits-requires
+fits-requires c κs = search needs
+
+add-answer : tie.Need-add-answer
+add-answer c = search needs
+
+growth-requires : tie.Need-growth-requires
+growth-requires c κs = search needs
+
+add-answer-2 : tie.Need-add-answer-2
+add-answer-2 c = omega (arith, c .growth .ensures, growth-top (c .before .before .args .p .ticket), c .before .before .pre)
+
+answer-requires : tie.Need-answer-requires
+answer-requires c κs = search needs
+
+returns : tie.Need-returns
+unfolding one-verdict
+returns c = rw (c .answer .ensures, c .before .growth .ensures, c .before .before .fits2 .ensures)
+
+pub one-verdict-spec : {M : Type 1} → statement M
+one-verdict-spec =
+    tie.close
+    (tie.spec fits-requires add-answer growth-requires add-answer-2 answer-requires returns)

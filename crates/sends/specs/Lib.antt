@@ -1,0 +1,25 @@
+-- What the contracts of sends say.
+pub mod Ticket
+pub mod Sent
+pub mod SentLaws
+pub mod Plan
+pub mod PlanLaws
+pub mod NextTn
+pub mod Entries
+pub mod AfterLaws
+pub mod SecondLaws
+pub mod Verdict
+pub mod Sends
+pub mod Sendable
+pub mod Room
+pub mod Reading
+pub mod InMemory
+pub mod Planned
+pub mod Stored
+pub mod Made
+pub mod Framing
+pub mod Works
+pub mod Worked
+pub mod WorkAt
+pub mod WorkFrame
+pub mod Inject

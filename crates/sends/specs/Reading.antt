@@ -1,0 +1,51 @@
+-- What is read of a store: its head and the places of its memories, in the view's words, and how much its rows can hold.
+use mathlib.Core.Path.{_≡_, refl}
+use mathlib.Core.Bool.{true}
+use mathlib.Core.List.{List}
+use Prim.Native.Nat.{ℕ, _+_, _-_, _<_, _≤_}
+use native.Mathlib.Omega.{arith}
+use borrow.Author.Tests.{leb-true}
+use lib.Dec.{leb}
+use lib.ListN.{length}
+use Rattle.lists.specs.Tests.{and-r}
+use Rattle.protocol.specs.Frames.{between}
+use Rattle.words.specs.Part.{part, part-length}
+use Rattle.head.specs.Head.{job-of}
+use Rattle.head.specs.HeadLaws.{chares-top}
+use Rattle.tickets.specs.Table as tickets
+use Rattle.tickets.specs.Fits as table-fits
+use Rattle.logs.specs.Log as logs
+use Rattle.logs.specs.Fits as log-fits
+use Rattle.packets.specs.Words.{packets}
+use Rattle.packets.specs.Fits.{packets-fit}
+use Rattle.memory.specs.Places.{TABLE, LOG, ROW, MEMORY}
+use Rattle.store.specs.Places.{WIRE, PACKETS, STORE, live-from}
+use Rattle.store.specs.View.{view}
+use Rattle.store.specs.ViewLaws.{wire-at}
+
+pub job-at : (xs : List ℕ) → view xs .job ≡ job-of xs
+unfolding view
+job-at xs = refl
+
+-- a chare of the job has a memory
+pub chare-in : (xs : List ℕ) (c : ℕ) → between 1 (view xs .job .chares) c ≡ true → c < 13
+unfolding between view
+chare-in xs c e = omega (arith, leb-true c (job-of xs .chares) (and-r (leb 1 c) (leb c (job-of xs .chares)) e), chares-top xs)
+
+-- a memory lent has the memory's length
+pub span : (c : ℕ) → (live-from c + MEMORY) - live-from c ≡ MEMORY
+span c = omega arith
+
+module _ (ws : List ℕ) (size : length ws ≡ MEMORY) where
+  pub table-top : length (tickets.entries (part TABLE ROW ws)) ≤ 16
+  table-top = omega (arith, table-fits.entries-fit (part TABLE ROW ws), part-length TABLE ROW ws (omega arith))
+
+  pub log-top : length (logs.entries (part LOG ROW ws)) ≤ 16
+  log-top = omega (arith, log-fits.entries-fit (part LOG ROW ws), part-length LOG ROW ws (omega arith))
+
+module _ (xs : List ℕ) (size : length xs ≡ STORE) where
+  pub packets-top : length (packets (part WIRE PACKETS xs)) ≤ 128
+  packets-top = omega (arith, packets-fit (part WIRE PACKETS xs), part-length WIRE PACKETS xs (omega arith))
+
+  pub wire-top : length (view xs .wire) ≤ 128
+  wire-top = rw (wire-at xs) packets-top

@@ -1,0 +1,143 @@
+-- The questions 7 to 11 for none, one or two sends, by their plans.
+use mathlib.Core.Path.{_≡_, refl, sym, subst, _∙_}
+use mathlib.Core.Bool.{Bool, true, false, _&&_}
+use mathlib.Core.List.{List, [], _∷_}
+use Prim.Native.Nat.{ℕ, _+_}
+use native.Mathlib.Omega.{arith}
+use borrow.Author.Tests.{ltb-true, ltb-false, lt-leb, le-leb, lt-ltb}
+use lib.Dec.{ltb, leb}
+use lib.ListN.{length}
+use Rattle.lists.specs.Tests.{either, and-l, and-r}
+use Rattle.lists.specs.Questions.{asks, first-no}
+use Rattle.protocol.specs.declared.Answer.the-variants.{Accepted}
+use Rattle.protocol.specs.Parts.{State}
+use Rattle.protocol.specs.Sending.{send, send-all, next-message}
+use Rattle.protocol.specs.Questions.{numbers-fit, window-admits, log-has-room, table-has-room, wire-fits, put-to-all}
+use Rattle.protocol.specs.Step.{Outcome, judged}
+use Rattle.sends.specs.declared.plan.Plan.{Plan}
+use Rattle.sends.specs.Ticket.{fits, growth}
+use Rattle.sends.specs.Plan.{plan-of, plan-after}
+use Rattle.sends.specs.PlanLaws.{Judges, judges}
+use Rattle.sends.specs.AfterLaws.{log-after, wire-after}
+use Rattle.sends.specs.SecondLaws.{after-first}
+
+unfoldable pub sends-questions : State → ℕ → List ℕ → ℕ → ℕ → List Bool
+sends-questions s a l v h =
+    put-to-all numbers-fit s a l v h
+    ∷ put-to-all window-admits s a l v h
+    ∷ put-to-all log-has-room s a l v h
+    ∷ put-to-all table-has-room s a l v h
+    ∷ wire-fits (send-all s a l v h)
+    ∷ []
+
+-- the sends made in w, or s as it was
+unfoldable pub tried-sends : State → State → ℕ → List ℕ → ℕ → ℕ → Outcome
+tried-sends s w a l v h = judged s (asks 7 (sends-questions w a l v h) (record { state = send-all w a l v h; answer = Accepted }))
+
+-- the first "no" of 7 to 11 by the plans, from the lengths of the sender's log and of the wire
+unfoldable pub one-verdict : Plan → ℕ → ℕ → ℕ
+one-verdict p log wire = first-no 7 (fits (p .ticket) ∷ p .admits ∷ leb (log + 1) 16 ∷ p .room ∷ leb (wire + growth (p .ticket)) 128 ∷ [])
+
+unfoldable pub two-verdict : Plan → Plan → ℕ → ℕ → ℕ
+two-verdict p q log wire =
+    first-no 7 (
+    (fits (p .ticket) && fits (q .ticket))
+    ∷ (p .admits && q .admits)
+    ∷ leb (log + 2) 16
+    ∷ (p .room && q .room)
+    ∷ leb (wire + growth (p .ticket) + growth (q .ticket)) 128
+    ∷ [])
+
+-- the later questions count only where the first is answered "yes"
+first-no-guard : (n : ℕ) (p q : Bool) (l m : List Bool) → p ≡ q → (q ≡ true → l ≡ m) → first-no n (p ∷ l) ≡ first-no n (q ∷ m)
+unfolding first-no
+first-no-guard n p true l m e f = rw (e, f refl)
+first-no-guard n p false l m e f = rw e
+
+pub and-true : (b : Bool) → (b && true) ≡ b
+and-true true = refl
+and-true false = refl
+
+less-leb : (n m : ℕ) → ltb n m ≡ leb (n + 1) m
+less-leb n m = either (ltb n m)
+    (λ e. e ∙ sym (le-leb (n + 1) m (omega (arith, ltb-true n m e))))
+    (λ e. e ∙ sym (lt-leb (n + 1) m (omega (arith, ltb-false n m e))))
+
+-- ---- one send
+module _ (s : State) (a b v h : ℕ) where
+  pub first-wire : fits (plan-of s a b .ticket) ≡ true → length (send s a b v h .wire) ≡ length (s .wire) + growth (plan-of s a b .ticket)
+  first-wire f = rw (judges s a b .sends f v h) (wire-after s (next-message s a b v h) (plan-of s a b .ticket))
+
+  first-log : fits (plan-of s a b .ticket) ≡ true → length (send s a b v h .live a .log) ≡ length (s .live a .log) + 1
+  unfolding next-message
+  first-log f = rw (judges s a b .sends f v h) (log-after s (next-message s a b v h) (plan-of s a b .ticket))
+
+  pub one-judged : first-no 7 (sends-questions s a (b ∷ []) v h) ≡ one-verdict (plan-of s a b) (length (s .live a .log)) (length (s .wire))
+  unfolding one-verdict sends-questions put-to-all send-all wire-fits log-has-room
+  one-judged =
+      let j = judges s a b in
+      first-no-guard 7 _ _ _ _ (and-true (numbers-fit s a b) ∙ j .numbers)
+      (λ f. rw (
+        and-true (window-admits s a b),
+        j .window f,
+        and-true (ltb (length (s .live a .log)) 16),
+        less-leb (length (s .live a .log)) 16,
+        and-true (table-has-room s a b),
+        j .table f,
+        first-wire f,
+      ))
+
+both-less : (n : ℕ) → (ltb n 16 && ltb (n + 1) 16) ≡ leb (n + 2) 16
+both-less n = either (ltb (n + 1) 16)
+    (λ e. rw (e, lt-ltb n 16 (omega (arith, ltb-true (n + 1) 16 e))) (sym (le-leb (n + 2) 16 (omega (arith, ltb-true (n + 1) 16 e)))))
+    (λ e. rw e (none (ltb n 16) ∙ sym (lt-leb (n + 2) 16 (omega (arith, ltb-false (n + 1) 16 e)))))
+  where
+    none : (b : Bool) → (b && false) ≡ false
+    none true = refl
+    none false = refl
+
+-- ---- two sends, the second as if the first were made
+module _ (s : State) (a b v h d : ℕ) where
+  abbrev first : Plan
+  first = plan-of s a b
+
+  abbrev second : Plan
+  second = plan-after s a b (first .ticket) d
+
+  second-judges : fits (first .ticket) ≡ true → Judges (send s a b v h) a d second
+  second-judges f = subst (Judges (send s a b v h) a d) (after-first s a b v h d f) (judges (send s a b v h) a d)
+
+  both-fit : (numbers-fit s a b && (numbers-fit (send s a b v h) a d && true)) ≡ (fits (first .ticket) && fits (second .ticket))
+  both-fit = rw (judges s a b .numbers) (either (fits (first .ticket))
+      (λ f. rw f (and-true (numbers-fit (send s a b v h) a d) ∙ second-judges f .numbers))
+      (λ f. rw f))
+
+  second-wire : fits (first .ticket) ≡ true → fits (second .ticket) ≡ true
+      → length (send (send s a b v h) a d v h .wire) ≡ length (s .wire) + growth (first .ticket) + growth (second .ticket)
+  second-wire f g =
+      let e = after-first s a b v h d f in
+      first-wire (send s a b v h) a d v h (rw e g) ∙ rw (e, first-wire s a b v h f)
+
+  pub two-judged : first-no 7 (sends-questions s a (b ∷ d ∷ []) v h) ≡ two-verdict first second (length (s .live a .log)) (length (s .wire))
+  unfolding two-verdict sends-questions put-to-all send-all wire-fits log-has-room
+  two-judged =
+      let t = send s a b v h in
+      let n = length (s .live a .log) in
+      first-no-guard 7 _ _ _ _ both-fit
+      (λ f.
+      let f1 = and-l (fits (first .ticket)) (fits (second .ticket)) f in
+      let f2 = and-r (fits (first .ticket)) (fits (second .ticket)) f in
+      let j = judges s a b in
+      let k = second-judges f1 in
+      rw (
+        j .window f1,
+        and-true (window-admits t a d),
+        k .window f2,
+        first-log s a b v h f1,
+        and-true (ltb (n + 1) 16),
+        both-less n,
+        j .table f1,
+        and-true (table-has-room t a d),
+        k .table f2,
+        second-wire f1 f2,
+      ))

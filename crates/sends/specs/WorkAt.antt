@@ -1,0 +1,96 @@
+-- An entry worked where the store stands: the four words written, the sends made; or the four words written back.
+use mathlib.Core.Path.{_≡_, sym, ap, _∙_}
+use mathlib.Core.List.{List}
+use mathlib.Core.Option.{some}
+use Prim.Native.Nat.{ℕ, _-_, _+_, _%_, _<_, _≤_}
+use native.Mathlib.Omega.{arith}
+use lib.ListN.{length}
+use Rattle.lists.specs.Questions.{first-no}
+use Rattle.protocol.specs.declared.Answer.the-variants.{Accepted, Refused}
+use Rattle.protocol.specs.declared.Entry.{Entry}
+use Rattle.protocol.specs.Parts.{Memory, with-memory}
+use Rattle.protocol.specs.Work.{receivers, sent-value}
+use Rattle.protocol.specs.Working.{work-entry, worked-only, receivers-of, value-out, hops-out}
+use Rattle.words.specs.Part.{part, put, part-length, part-put, put-again, put-same}
+use Rattle.memory.specs.declared.Numbers.{Numbers}
+use Rattle.memory.specs.Places.{MEMORY}
+use Rattle.memory.specs.Numbers.{taken, given, with-numbers, give-back, numbers-given}
+use Rattle.memory.specs.View.{memory-view}
+use Rattle.store.specs.Places.{STORE, live-from}
+use Rattle.store.specs.View.{view, Framed}
+use Rattle.store.specs.ViewLaws.{live-at, live-put}
+use Rattle.sends.specs.declared.entry.Worked.{Worked}
+use Rattle.sends.specs.Framing.{refused, accepted}
+use Rattle.sends.specs.Made.{Made, sends-made, sends-refused}
+use Rattle.sends.specs.Sends.{tried-sends}
+use Rattle.sends.specs.Worked.{NumbersOf, numbers-taken, WorkedAs}
+use Rattle.sends.specs.Works.{own-questions, tried-work, own-refused, own-passed}
+
+-- xs is the store before; old are the four words, w what the work makes of them
+module _ (xs : List ℕ) (size : length xs ≡ STORE) (c : ℕ) (c-in : c < 13) (e : Entry) (e-in : e .sender < 16) (old : Numbers) (w : Worked)
+    (took : old ≡ taken (part (live-from c) MEMORY xs) (e .sender)) (did : WorkedAs old e w) where
+  abbrev was : List ℕ
+  was = part (live-from c) MEMORY xs
+
+  long : length was ≡ MEMORY
+  long = part-length (live-from c) MEMORY xs (omega arith)
+
+  own : NumbersOf (view xs .live c) (e .sender) old
+  own = rw (took, live-at xs c c-in) (numbers-taken was (e .sender) e-in)
+
+  answered : w .answer ≡ first-no 6 (own-questions (view xs .live c) e)
+  answered = did .answer (view xs .live c) own
+
+  pub not-worked : (w .answer ≡ 0 → ⊥) → Framed xs xs (Refused (w .answer)) (tried-work (view xs) c (some e))
+  not-worked f = refused xs (w .answer) (own-refused (view xs) c e (λ z. f (answered ∙ z)) ∙ rw (← answered))
+
+  -- ys is the memory with the new words
+  module _ (yes : w .answer ≡ 0) (ys : List ℕ) (ly : length ys ≡ MEMORY) (gave : ys ≡ given was (e .sender) (w .numbers)) where
+    abbrev ws : List ℕ
+    ws = put (live-from c) MEMORY xs ys
+
+    worked-is : with-numbers (view xs .live c) (e .sender) (w .numbers) ≡ work-entry (view xs .live c) e
+    worked-is = did .memory (view xs .live c) own yes
+
+    memory-is : memory-view ys ≡ work-entry (view xs .live c) e
+    memory-is =
+        let s = did .small yes in
+        ap memory-view gave
+        ∙ numbers-given was long (e .sender) (w .numbers) e-in (s .state) (s .height) (s .mark)
+        ∙ ap (λ m. with-numbers m (e .sender) (w .numbers)) (sym (live-at xs c c-in))
+        ∙ worked-is
+
+    works : view ws ≡ with-memory (view xs) c (work-entry (view xs .live c) e)
+    works = live-put xs size c c-in ys ly ∙ ap (with-memory (view xs) c) memory-is
+
+    state-is : w .numbers .state ≡ work-entry (view xs .live c) e .state
+    unfolding with-numbers
+    state-is = ap (λ (m : Memory). m .state) worked-is
+
+    -- zs is the store with the sends made or refused
+    module _ (zs : List ℕ) (v n : ℕ) (v-is : v ≡ w .numbers .state % 65536) (m : Made ws zs c (receivers (view ws .job) c (e .hops)) v (e .hops - 1) n) where
+      passed : tried-work (view xs) c (some e) ≡ tried-sends (view xs) (view ws) c (receivers (view ws .job) c (e .hops)) v (e .hops - 1)
+      unfolding worked-only receivers-of value-out hops-out work-entry sent-value
+      passed =
+          let value-is : v ≡ sent-value (work-entry (view xs .live c) e .state) = v-is ∙ ap (_% 65536) state-is in
+          own-passed (view xs) c e (sym answered ∙ yes) ∙ rw (value-is, works)
+
+      pub all-sent : n ≡ 0 → Framed xs zs Accepted (tried-work (view xs) c (some e))
+      all-sent z = accepted xs zs (passed ∙ sends-made (view xs) m z)
+
+      -- us is the memory with the old words again
+      pub undone : (n ≡ 0 → ⊥) → (us : List ℕ) → us ≡ given (part (live-from c) MEMORY zs) (e .sender) old
+          → Framed xs (put (live-from c) MEMORY zs us) (Refused n) (tried-work (view xs) c (some e))
+      undone f us back = rw back-again (refused xs n (passed ∙ sends-refused (view xs) m f))
+        where
+          fits : live-from c + MEMORY ≤ length xs
+          fits = omega arith
+
+          there : part (live-from c) MEMORY zs ≡ given was (e .sender) (w .numbers)
+          there = ap (part (live-from c) MEMORY) (m .stays f) ∙ part-put (live-from c) MEMORY xs ys fits ly ∙ gave
+
+          us-is : us ≡ was
+          us-is = back ∙ rw (there, took) (give-back was (e .sender) (w .numbers))
+
+          back-again : put (live-from c) MEMORY zs us ≡ xs
+          back-again = rw (us-is, m .stays f) (put-again (live-from c) MEMORY xs ys fits ly was ∙ put-same (live-from c) MEMORY xs)

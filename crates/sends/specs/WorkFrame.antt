@@ -1,0 +1,70 @@
+-- Frame 12: the questions on the chare, the next entry, and the entry worked.
+use mathlib.Core.Path.{_≡_, refl, sym, ap, _∙_}
+use mathlib.Core.List.{List}
+use mathlib.Core.Option.{Option, some, none}
+use Prim.Native.Nat.{ℕ, _+_, _<_}
+use native.Mathlib.Omega.{arith}
+use borrow.Author.Tests.{eqb-true}
+use Rattle.lists.specs.Lists.{find-some}
+use Rattle.lists.specs.Questions.{first-no, first-no-yes}
+use Rattle.protocol.specs.declared.Answer.{Answer}
+use Rattle.protocol.specs.declared.Answer.the-variants.{Refused}
+use Rattle.protocol.specs.declared.Entry.{Entry}
+use Rattle.protocol.specs.Questions.{work-questions}
+use Rattle.protocol.specs.Step.{Outcome}
+use Rattle.protocol.specs.Tickets.{has-tn}
+use Rattle.protocol.specs.Working.{next-entry}
+use Rattle.words.specs.Part.{part}
+use Rattle.head.specs.Head.{job-of, lost-of, status-of, chare-asked}
+use Rattle.tickets.specs.Fits.{InRange, found-fits}
+use Rattle.memory.specs.Places.{TABLE, ROW, MEMORY}
+use Rattle.memory.specs.View.{memory-view, table-part}
+use Rattle.store.specs.Places.{live-from}
+use Rattle.store.specs.View.{view, tried, Framed}
+use Rattle.store.specs.ViewLaws.{live-at}
+use Rattle.sends.specs.Framing.{refused}
+use Rattle.sends.specs.Reading.{chare-in}
+use Rattle.sends.specs.Works.{worked-state, chare-questions, tried-work, work-tried, work-refused, none-refused}
+
+-- ---- the next entry of a memory
+module _ (ws : List ℕ) where
+  -- an entry found fits a word
+  pub next-fits : (e : Entry) → next-entry (memory-view ws) ≡ some e → InRange e
+  unfolding next-entry
+  next-fits e q = found-fits (part TABLE ROW ws) _ (rw (table-part ws) at q)
+
+  -- no TN lies above the last height
+  pub none-next : memory-view ws .height ≡ 65535 → none ≡ next-entry (memory-view ws)
+  unfolding next-entry has-tn
+  none-next h = go (next-entry (memory-view ws)) refl
+    where
+      go : (o : Option Entry) → next-entry (memory-view ws) ≡ o → none ≡ o
+      go none q = refl
+      go (some e) q =
+          let t : e .tn ≡ memory-view ws .height + 1 = eqb-true (e .tn) (memory-view ws .height + 1) (find-some (has-tn (memory-view ws .height + 1)) (memory-view ws .table) q .1) in
+          absurd (omega (arith, next-fits e q .3))
+
+module _ (xs : List ℕ) (c n : ℕ) (n-is : n ≡ first-no 2 (chare-asked (job-of xs) (lost-of xs) (status-of xs) c)) where
+  abbrev work-outcome : Outcome
+  work-outcome = tried (view xs) (work-questions (view xs) c) (worked-state (view xs) c (next-entry (view xs .live c)))
+
+  asked : n ≡ first-no 2 (chare-questions (view xs) c)
+  unfolding view
+  asked = n-is
+
+  pub frame-refused : (n ≡ 0 → ⊥) → Framed xs xs (Refused n) work-outcome
+  frame-refused f = refused xs n (work-refused (view xs) c (λ z. f (asked ∙ z)) _ ∙ rw (← asked))
+
+  module _ (z : n ≡ 0) where
+    pub index : c < 13
+    unfolding chare-asked
+    index = chare-in xs c (first-no-yes 1 (chare-questions (view xs) c) (sym asked ∙ z) .1 .0)
+
+    by-entry : (o : Option Entry) → next-entry (memory-view (part (live-from c) MEMORY xs)) ≡ o → work-outcome ≡ tried-work (view xs) c o
+    by-entry o q = work-tried (view xs) c (sym asked ∙ z) ∙ ap (tried-work (view xs) c) (rw (live-at xs c index) q)
+
+    pub nothing-next : next-entry (memory-view (part (live-from c) MEMORY xs)) ≡ none → Framed xs xs (Refused 6) work-outcome
+    nothing-next q = refused xs 6 (by-entry none q ∙ none-refused (view xs) c)
+
+    pub next-worked : (e : Entry) → next-entry (memory-view (part (live-from c) MEMORY xs)) ≡ some e → (ys : List ℕ) (a : Answer) → Framed xs ys a (tried-work (view xs) c (some e)) → Framed xs ys a work-outcome
+    next-worked e q ys a r = rw (by-entry (some e) q) r

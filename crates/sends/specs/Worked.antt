@@ -1,0 +1,87 @@
+-- An entry's message worked on the four words of a memory, and the first question that refuses it.
+use mathlib.Core.Path.{_≡_, sym, _∙_}
+use mathlib.Core.Bool.{true, false}
+use mathlib.Core.List.{List, [], _∷_}
+use Prim.Native.Nat.{ℕ, _+_, _%_, _<_, _≤_}
+use native.Mathlib.Omega.{arith}
+use borrow.Author.Tests.{le-leb, lt-leb}
+use lib.Dec.{leb}
+use Rattle.lists.specs.Questions.{first-no}
+use Rattle.protocol.specs.declared.Entry.{Entry}
+use Rattle.protocol.specs.Parts.{Memory}
+use Rattle.protocol.specs.Work.{work}
+use Rattle.protocol.specs.Working.{work-entry}
+use Rattle.protocol.specs.Questions.{mark-after}
+use Rattle.window.specs.declared.Slid.{Slid}
+use Rattle.window.specs.Bits.{bits, TakenIn}
+use Rattle.memory.specs.declared.Numbers.{Numbers}
+use Rattle.memory.specs.Numbers.{taken, with-numbers}
+use Rattle.memory.specs.View.{memory-view, state-at, height-at, mark-at, window-at}
+use Rattle.sends.specs.declared.entry.Worked.{Worked}
+use Rattle.sends.specs.Works.{is-ready, own-questions}
+
+-- x are words that m has for the sender s
+pub record NumbersOf (m : Memory) (s : ℕ) (x : Numbers) : Type 0 where
+  pub state : x .state % 4294967296 ≡ m .state
+  pub height : x .height % 65536 ≡ m .height
+  pub mark : x .mark % 65536 ≡ m .mark s
+  pub window : bits (x .window) ≡ m .window s
+
+pub numbers-taken : (ws : List ℕ) (s : ℕ) → s < 16 → NumbersOf (memory-view ws) s (taken ws s)
+unfolding taken
+numbers-taken ws s h = record { state = state-at ws; height = height-at ws; mark = mark-at ws s h; window = window-at ws s h }
+
+-- words that a memory can hold as they are
+pub record Small (x : Numbers) : Type 0 where
+  pub state : x .state < 4294967296
+  pub height : x .height < 65536
+  pub mark : x .mark < 65536
+
+-- x are the words before
+pub record WorkedAs (x : Numbers) (e : Entry) (r : Worked) : Type 0 where
+  pub answer : (m : Memory) → NumbersOf m (e .sender) x → r .answer ≡ first-no 6 (own-questions m e)
+  pub memory : (m : Memory) → NumbersOf m (e .sender) x → r .answer ≡ 0 → with-numbers m (e .sender) (r .numbers) ≡ work-entry m e
+  pub small : r .answer ≡ 0 → Small (r .numbers)
+
+module _ (x : Numbers) (e : Entry) where
+  -- an answer above 0
+  refused-as : (n : ℕ) → 0 < n → ((m : Memory) → NumbersOf m (e .sender) x → n ≡ first-no 6 (own-questions m e)) → WorkedAs x e (record { answer = n; numbers = x })
+  refused-as n p q = record { answer = q; memory = λ m is z. absurd (omega arith); small = λ z. absurd (omega arith) }
+
+  pub not-ready : is-ready e ≡ false → WorkedAs x e (record { answer = 6; numbers = x })
+  unfolding first-no own-questions
+  not-ready f = refused-as 6 (omega arith) (λ m is. rw f)
+
+  -- h is the height
+  module _ (f : is-ready e ≡ true) (h : ℕ) (h-is : h ≡ x .height % 65536) where
+    pub too-high : 60000 ≤ h → WorkedAs x e (record { answer = 7; numbers = x })
+    unfolding first-no own-questions
+    too-high g = refused-as 7 (omega arith) (λ m is.
+        let q : 60000 < m .height + 1 = omega (arith, is .height) in
+        rw (f, lt-leb (m .height + 1) 60000 q))
+
+    -- k is the mark, and d the mark and the window that the entry's SN leaves
+    module _ (low : h < 60000) (k : ℕ) (k-is : k ≡ x .mark % 65536) (d : Slid) (takes : TakenIn k (x .window) (e .sn) d) where
+      risen : (m : Memory) → NumbersOf m (e .sender) x → d .mark ≡ mark-after m e
+      unfolding mark-after
+      risen m is = takes .mark-risen ∙ rw (k-is, is .mark, is .window)
+
+      asked : (m : Memory) → NumbersOf m (e .sender) x → first-no 6 (own-questions m e) ≡ first-no 7 (leb (d .mark) 60000 ∷ [])
+      unfolding first-no own-questions
+      asked m is =
+          let q : m .height + 1 ≤ 60000 = omega (arith, is .height) in
+          rw (f, le-leb (m .height + 1) 60000 q, risen m is)
+
+      pub mark-too-high : 60000 < d .mark → WorkedAs x e (record { answer = 7; numbers = x })
+      unfolding first-no
+      mark-too-high g = refused-as 7 (omega arith) (λ m is. sym (asked m is ∙ rw (lt-leb (d .mark) 60000 g)))
+
+      -- u is the state, and w the one that the value leaves
+      pub worked : (u w : ℕ) → u ≡ x .state % 4294967296 → w ≡ work u (e .value) → w < 4294967296 → d .mark ≤ 60000
+          → WorkedAs x e (record { answer = 0; numbers = record { state = w; height = h + 1; mark = d .mark; window = d .window } })
+      unfolding first-no with-numbers work-entry
+      worked u w u-is w-is w-in g = record {
+        answer = λ m is. sym (asked m is ∙ rw (le-leb (d .mark) 60000 g));
+        memory = λ m is z. rw (w-is, u-is, h-is, takes .mark-risen, takes .window-slid, k-is, is .state, is .height, is .mark, is .window);
+        small = λ z. record { state = w-in; height = omega arith; mark = omega arith };
+      }

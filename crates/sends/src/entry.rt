@@ -1,0 +1,56 @@
+// An entry's message worked: the four words of the memory afterwards, or the question that refuses it.
+ghost use mathlib.Core.Path.{_≡_};
+ghost use Rattle.sends.specs.Worked.{WorkedAs};
+ghost use Rattle.sends.specs.Works.{is-ready};
+use crate::verdict::both;
+use memory::Numbers;
+use protocol::Entry;
+
+pub struct Worked {
+    pub answer: u8,
+    pub numbers: Numbers,
+}
+
+fn refused(x: Numbers, n: u8) -> Worked
+    ensures { λ r. ⌜ r ≡ record { answer = n; numbers = x } ⌝ }
+{
+    Worked {
+        answer: n,
+        numbers: x,
+    }
+}
+
+// Question 6: received and noted. The rule book also asks for a sender of at most 12.
+fn is_ready(e: Entry) -> bool
+    ensures { λ r. ⌜ r ≡ is-ready e ⌝ }
+{
+    if 12 < e.sender {
+        return false;
+    }
+    both(e.received, e.noted)
+}
+
+pub fn work_entry(x: Numbers, e: Entry) -> Worked
+    ensures { λ r. ⌜ WorkedAs x e r ⌝ }
+{
+    if !is_ready(e) {
+        return refused(x, 6);
+    }
+    let height = (x.height % 65536) as u16;
+    if 60000 <= height {
+        return refused(x, 7);
+    }
+    let mark = (x.mark % 65536) as u16;
+    let d = window::take_in(mark, x.window, e.sn);
+    if 60000 < d.mark {
+        return refused(x, 7);
+    }
+    let state = (x.state % 4294967296) as u32;
+    let numbers = Numbers {
+        state: window::work(state, e.value) as u64,
+        height: height as u64 + 1,
+        mark: d.mark as u64,
+        window: d.window,
+    };
+    Worked { answer: 0, numbers }
+}
