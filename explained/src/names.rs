@@ -2,6 +2,7 @@
 
 use reference::job::Job;
 use reference::limits::DESK;
+use reference::message::Body;
 use reference::wire::{Content, Kind, Name};
 
 /// A machine, or the desk for 0.
@@ -23,6 +24,16 @@ pub fn sender(number: u8) -> String {
 /// A message by sender, receiver and SN.
 pub fn message(sender: u8, receiver: u8, sn: u16) -> String {
     format!("{sender}→{receiver} #{sn}")
+}
+
+/// A value: decimal, as lists in words have it, and hexadecimal, as frames and states do.
+pub fn value(value: u16) -> String {
+    format!("{value} (hex {value:04X})")
+}
+
+/// What a message carries.
+pub fn body(body: Body) -> String {
+    format!("value {}, hops {}", value(body.value), body.hops)
 }
 
 pub fn kind(kind: Kind) -> &'static str {

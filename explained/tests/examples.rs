@@ -17,6 +17,15 @@ fn there_are_examples() {
     assert!(names().len() >= 12);
 }
 
+/// The stored lines come from the second implementation; the proved engine gives the same.
+#[test]
+fn lines_of_the_engine() {
+    for name in names() {
+        let lines = explained::engine::lines(&list(&name));
+        assert_eq!(stored(&name, "out").as_bytes(), lines, "{name}");
+    }
+}
+
 #[test]
 fn lines() {
     for name in names() {

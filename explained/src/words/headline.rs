@@ -1,7 +1,7 @@
 //! A frame in a few words, for the margin of the picture.
 
 use super::refusal;
-use crate::names::{count, message, short};
+use crate::names::{self, count, message, short};
 use crate::play::Step;
 use crate::traffic::named;
 use reference::answer::Answer;
@@ -28,7 +28,11 @@ pub fn headline(step: &Step) -> String {
         }
         Frame::Inject { chare, value, .. } => {
             let sn = step.after.world.desk.sent[ix(chare)];
-            format!("inject {}, value {value}", message(DESK, chare, sn))
+            format!(
+                "inject {}, value {}",
+                message(DESK, chare, sn),
+                names::value(value)
+            )
         }
         Frame::Deliver { .. } => match named(frame) {
             Some(name) => format!("deliver {}", short(name)),

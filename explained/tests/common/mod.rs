@@ -3,8 +3,8 @@
 // Not every test needs all of it.
 #![allow(dead_code)]
 
+use explained::engine;
 use explained::report::{report, Report};
-use reference::engine::transcript;
 use std::fs;
 use std::path::{Path, PathBuf};
 
@@ -34,7 +34,7 @@ pub fn list(name: &str) -> Vec<u8> {
 }
 
 pub fn explained(input: &[u8]) -> Report {
-    let report = report(input, &transcript(input));
+    let report = report(input, &engine::lines(input));
     assert_eq!(report.difference, None);
     report
 }
