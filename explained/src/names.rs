@@ -64,6 +64,25 @@ pub fn packet(name: Name, content: Content) -> String {
     }
 }
 
+/// What a packet says.
+pub fn meaning(name: Name, content: Content) -> String {
+    let what = message(name.sender(), name.receiver(), name.sn());
+    let (from, to) = (sender(name.sender()), sender(name.receiver()));
+    match content {
+        Content::Ask => format!("{from} asks {to} for a ticket for {what}"),
+        Content::GrantOld => format!("{to} answers that {what} is worked: old"),
+        Content::GrantReceived(tn) => {
+            format!("{to} answers that {what} has TN {tn} and is received")
+        }
+        Content::GrantNew(tn) => format!("{to} gives {what} TN {tn}, and waits for the message"),
+        Content::Data { value, hops } => {
+            format!("the message {what} itself ({})", body(Body { value, hops }))
+        }
+        Content::Note(tn) => format!("for the buddy to note: {what} has TN {tn}"),
+        Content::Ack => format!("the buddy has noted the ticket of {what}"),
+    }
+}
+
 /// The machine a packet comes from; 0 is the desk.
 pub fn origin(job: &Job, name: Name) -> u8 {
     match name.kind() {

@@ -2,8 +2,7 @@
 
 mod common;
 
-use common::{explained, folder, list, names};
-use explained::picture::draw;
+use common::{drawn, explained, folder, list, names};
 use reference::reader::Sitting;
 use std::fs;
 
@@ -48,7 +47,7 @@ fn texts() {
 #[test]
 fn pictures() {
     for name in names() {
-        let picture = draw(&name, &explained(&list(&name)).story);
+        let picture = drawn(&name, &explained(&list(&name)).story);
         assert!(
             stored(&name, "svg") == picture,
             "{name}.svg is not up to date"

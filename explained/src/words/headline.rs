@@ -1,5 +1,6 @@
 //! A frame in a few words, for the margin of the picture.
 
+use super::crash::no_cover;
 use super::refusal;
 use crate::names::{self, count, message, short};
 use crate::play::Step;
@@ -44,7 +45,10 @@ pub fn headline(step: &Step) -> String {
         }
         Frame::Checkpoint { machine } => format!("checkpoint of machine {machine}"),
         Frame::Crash { machine } => match step.answer {
-            Answer::Lost => format!("crash of machine {machine}, no cover"),
+            Answer::Lost => {
+                let why = no_cover(step).join("; ");
+                format!("crash of machine {machine}, no cover: {why}")
+            }
             _ => format!("crash of machine {machine}, with cover"),
         },
         Frame::Restart { machine } => format!("restart of machine {machine}"),

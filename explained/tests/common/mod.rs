@@ -4,6 +4,7 @@
 #![allow(dead_code)]
 
 use explained::engine;
+use explained::picture::{Drawing, Story};
 use explained::report::{report, Report};
 use std::fs;
 use std::path::{Path, PathBuf};
@@ -37,4 +38,8 @@ pub fn explained(input: &[u8]) -> Report {
     let report = report(input, &engine::lines(input));
     assert_eq!(report.difference, None);
     report
+}
+
+pub fn drawn(title: &str, story: &Story) -> String {
+    Drawing::new(title, story).expect("a picture").whole()
 }
