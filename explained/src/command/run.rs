@@ -5,9 +5,10 @@ use super::files::{self, print};
 use super::usage::HELP;
 use super::{Failure, DIFFERENT, DONE, NEEDS_ENGINE};
 use crate::hints::hints;
+use crate::picture::{Drawing, Story};
 use crate::play::Difference;
 use crate::state::Wrong;
-use crate::{ahead, engine, notation, page, picture, report, state};
+use crate::{ahead, engine, notation, page, report, state};
 use reference::reader::answer_all;
 
 /// Is the call good, and its list? Says whether the engine is needed.
@@ -61,9 +62,12 @@ pub fn run(asked: &Asked) -> Result<u8, Failure> {
 
 /// What needs the lines of the list.
 fn with_lines(asked: &Asked, digits: &[u8]) -> Result<u8, Failure> {
-    let lines = match asked.quick {
-        true => answer_all(digits),
-        false => engine::lines(digits),
+    let (lines, whose) = match asked.quick {
+        true => (
+            answer_all(digits),
+            "the second implementation's, not the proved engine's",
+        ),
+        false => (engine::lines(digits), "the proved engine's"),
     };
     let title = files::title(&asked.list);
     let difference = match asked.task {
@@ -81,7 +85,8 @@ fn with_lines(asked: &Asked, digits: &[u8]) -> Result<u8, Failure> {
             Err(difference) => Some(difference),
         },
         Task::Page => {
-            let page = page::page(&title, digits, &lines).map_err(Failure::File)?;
+            let too_long = |message| Failure::File(format!("{title}: {message}"));
+            let page = page::page(&title, whose, digits, &lines).map_err(too_long)?;
             write_out(asked, &page.html)?;
             page.difference
         }
@@ -106,8 +111,17 @@ fn write_out(asked: &Asked, text: &str) -> Result<(), Failure> {
     }
 }
 
-fn put_picture(asked: &Asked, title: &str, story: &picture::Story) -> Result<(), Failure> {
-    write_out(asked, &picture::draw(title, story))
+fn put_picture(asked: &Asked, title: &str, story: &Story) -> Result<(), Failure> {
+    let too_long = |message| Failure::File(format!("{title}: {message}"));
+    let drawing = Drawing::new(title, story).map_err(too_long)?;
+    if !asked.pages {
+        return write_out(asked, &drawing.whole());
+    }
+    let out = asked.out.as_deref().unwrap_or_default();
+    for (at, page) in drawing.pages().iter().enumerate() {
+        files::write(&files::page(out, at + 1), page)?;
+    }
+    Ok(())
 }
 
 fn status(difference: Option<Difference>) -> u8 {
