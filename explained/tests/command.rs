@@ -1,13 +1,11 @@
 //! Every subcommand as a person runs it. The lines that are expected come from the second implementation.
 
 mod common;
-#[path = "common/run.rs"]
-mod run;
 
+use common::run::{fed, fresh, run};
 use common::{drawn, explained, folder, list};
 use explained::notation::decode;
 use reference::reader::answer_all;
-use run::{fed, fresh, run};
 use std::fs;
 use std::path::PathBuf;
 

@@ -1,11 +1,9 @@
 //! The scripts in tools/: what they say before anything is built.
 
 mod common;
-#[path = "common/run.rs"]
-mod run;
 
 use common::folder;
-use run::{fresh, result};
+use common::run::{fresh, result};
 use std::fs;
 use std::os::unix::fs::PermissionsExt;
 use std::path::{Path, PathBuf};

@@ -1,11 +1,9 @@
 //! What cannot be done: each with its message, status 2, and nothing on standard output.
 
 mod common;
-#[path = "common/run.rs"]
-mod run;
 
 use common::folder;
-use run::{fed, fresh, result, run, satuphir};
+use common::run::{fed, fresh, result, run, satuphir};
 use std::ffi::OsStr;
 use std::fs::{self, File};
 use std::os::unix::ffi::OsStrExt;

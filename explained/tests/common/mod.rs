@@ -3,6 +3,8 @@
 // Not every test needs all of it.
 #![allow(dead_code)]
 
+pub mod run;
+
 use explained::engine;
 use explained::picture::{Drawing, Story};
 use explained::report::{report, Report};
