@@ -187,6 +187,11 @@ fn state_shows_what_is_rarer() {
             "17",
             "  * machine 1: catching up: chare 1 must work on to TN 2 (height 1)",
         ),
+        (
+            "08-holes",
+            "17",
+            "  * machine 1: chare 1 has to reach TN 2\n",
+        ),
         ("04-checkpoint", "7", "  * note: 1→2 #1 has TN 1\n"),
         (
             "11-full-window",
@@ -286,8 +291,14 @@ fn quick_says_so() {
         assert_eq!(status, 0, "{args:?}");
         assert_eq!(
             error,
-            "satuphir: --quick: the second implementation's lines, not the proved engine's\n"
+            "satuphir: --quick: the lines are the second implementation's, not the proved engine's\n"
         );
         assert_eq!(out, run(args).1, "{args:?}");
+        // What is written says so too; the run without `--quick` has just written over it.
+        run(&quick);
+    }
+    for made in [svg, html] {
+        let made = fs::read_to_string(made).expect("a file");
+        assert!(made.contains("05-crash-with-cover (not the proved engine's lines)"));
     }
 }

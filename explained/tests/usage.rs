@@ -147,6 +147,18 @@ fn a_full_disk() {
     }
 }
 
+#[test]
+fn a_folder_that_is_not_there() {
+    for task in ["picture", "page"] {
+        let (status, out, error) = run(&[task, &example(), "/nowhere/out"]);
+        assert_eq!((status, out.as_str()), (2, ""));
+        assert_eq!(
+            error,
+            "satuphir: /nowhere/out: No such file or directory (os error 2)\n"
+        );
+    }
+}
+
 /// The list is not written over by what is made from it, by whatever name.
 #[test]
 fn a_result_onto_its_own_list() {
@@ -249,14 +261,21 @@ fn a_mistake_in_words() {
 #[test]
 fn a_list_too_long_to_draw() {
     let list = reference::generator::list(107, 5000);
-    for (task, message) in [
-        ("picture", "too long to draw: 5000 frames, "),
+    let longer = b"1201\n".repeat(5001);
+    for (list, task, message) in [
+        (&list, "picture", "too long to draw: 5000 frames, "),
         (
+            &longer,
+            "picture",
+            "too long to draw: 5001 frames, and a picture has at most 5000\n",
+        ),
+        (
+            &list,
             "page",
             "too long for a page: 5000 frames, and a page has at most 1000\n",
         ),
     ] {
-        let (status, out, error) = fed(&[task, "-", "/dev/null"], &list);
+        let (status, out, error) = fed(&[task, "-", "/dev/null"], list);
         assert_eq!((status, out.as_str()), (2, ""), "{task}");
         let message = format!("satuphir: standard input: {message}");
         assert!(error.starts_with(&message), "{error}");

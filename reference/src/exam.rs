@@ -69,11 +69,17 @@ fn fits(wish: &Wish, list: &[u8]) -> bool {
     for line in list.trim_ascii_end().split(|&b| b == b'\n') {
         let answer = state.line(line);
         frames += 1;
-        clean &= !matches!(answer, Answer::Refused(Question::Form | Question::Job | Question::Range));
+        clean &= !matches!(
+            answer,
+            Answer::Refused(Question::Form | Question::Job | Question::Range)
+        );
         seen.extend(events(&state, parse(line), answer));
     }
     let lost = seen.contains(&Event::Lost);
-    let count = state.job.as_ref().map(|job| (job.machine_count() as usize, job.chare_count() as usize));
+    let count = state
+        .job
+        .as_ref()
+        .map(|job| (job.machine_count() as usize, job.chare_count() as usize));
     let Some((machines, chares)) = count else {
         return false;
     };

@@ -6,9 +6,16 @@ use reference::state::State;
 use std::process::Command;
 
 fn lists(args: &[&str]) -> (i32, Vec<u8>, String) {
-    let output = Command::new(env!("CARGO_BIN_EXE_lists")).args(args).output().expect("a run");
+    let output = Command::new(env!("CARGO_BIN_EXE_lists"))
+        .args(args)
+        .output()
+        .expect("a run");
     let error = String::from_utf8(output.stderr).expect("text");
-    (output.status.code().expect("no signal"), output.stdout, error)
+    (
+        output.status.code().expect("no signal"),
+        output.stdout,
+        error,
+    )
 }
 
 /// What a list holds, seen by playing it.
@@ -36,7 +43,12 @@ fn seen(list: &[u8]) -> Seen {
             Some(Frame::Crash { .. }) => seen.crashes += usize::from(accepted),
             Some(Frame::Restart { .. }) if accepted => {
                 seen.restarts += 1;
-                seen.holes += state.world.chares.iter().filter(|chare| chare.holes().count() > 0).count();
+                seen.holes += state
+                    .world
+                    .chares
+                    .iter()
+                    .filter(|chare| chare.holes().count() > 0)
+                    .count();
             }
             _ => {}
         }
@@ -55,8 +67,23 @@ fn seen(list: &[u8]) -> Seen {
 fn what_is_asked_for_is_there() {
     for seed in ["1", "2", "3"] {
         for (machines, chares) in [("2", "1"), ("3", "4"), ("6", "12")] {
-            let args = ["--machines", machines, "--chares", chares, "--frames", "50", "--clean"];
-            for with in ["", "crash", "crash,restart", "hole", "ff", "crash,restart,hole,ff"] {
+            let args = [
+                "--machines",
+                machines,
+                "--chares",
+                chares,
+                "--frames",
+                "50",
+                "--clean",
+            ];
+            for with in [
+                "",
+                "crash",
+                "crash,restart",
+                "hole",
+                "ff",
+                "crash,restart,hole,ff",
+            ] {
                 let mut args = args.to_vec();
                 if !with.is_empty() {
                     args.extend(["--with", with]);
@@ -66,10 +93,16 @@ fn what_is_asked_for_is_there() {
                 assert_eq!((status, error.as_str()), (0, ""), "{args:?}");
                 let seen = seen(&list);
                 let has = |event: &str| with.split(',').any(|asked| asked == event);
-                assert_eq!((seen.machines.to_string(), seen.chares.to_string()), (machines.to_string(), chares.to_string()));
+                assert_eq!(
+                    (seen.machines.to_string(), seen.chares.to_string()),
+                    (machines.to_string(), chares.to_string())
+                );
                 assert_eq!(seen.garbled, 0, "{args:?}");
                 assert_eq!(seen.lost, usize::from(has("ff")), "{args:?}");
-                assert!(seen.frames == 50 || has("ff") && seen.frames < 50, "{args:?}");
+                assert!(
+                    seen.frames == 50 || has("ff") && seen.frames < 50,
+                    "{args:?}"
+                );
                 assert!(!has("crash") || seen.crashes > 0, "{args:?}");
                 assert!(!has("restart") || seen.restarts > 0, "{args:?}");
                 assert!(!has("hole") || seen.holes > 0, "{args:?}");
@@ -99,8 +132,14 @@ fn bad_calls() {
         (&["--clean"], "a seed is needed"),
         (&["--machines", "7", "1"], "--machines 7 is not from 2 to 6"),
         (&["--chares", "x", "1"], "--chares x is not from 1 to 12"),
-        (&["--frames", "0", "1"], "--frames 0 is not from 1 to 100000"),
-        (&["--with", "crash,fire", "1"], "--with has no \"fire\": crash, restart, hole or ff"),
+        (
+            &["--frames", "0", "1"],
+            "--frames 0 is not from 1 to 100000",
+        ),
+        (
+            &["--with", "crash,fire", "1"],
+            "--with has no \"fire\": crash, restart, hole or ff",
+        ),
         (&["--dirty", "1"], "there is no option \"--dirty\""),
         (&["1", "--frames"], "--frames needs a value"),
         (&["--clean", "1", "2"], "\"2\" is too much"),
@@ -114,7 +153,10 @@ fn bad_calls() {
     }
     let (status, list, error) = lists(&["--frames", "3", "--with", "hole", "1"]);
     assert_eq!((status, list.len()), (1, 0));
-    assert_eq!(error, "lists: of 20000 lists none is like that: ask for more frames, or for less to happen\n");
+    assert_eq!(
+        error,
+        "lists: of 20000 lists none is like that: ask for more frames, or for less to happen\n"
+    );
     let (status, help, _) = lists(&["--help"]);
     assert!(status == 0 && help.starts_with(b"lists [OPTIONS] SEED"));
 }

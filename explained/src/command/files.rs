@@ -62,6 +62,19 @@ pub fn keep_apart(list: &OsStr, out: &OsStr) -> Result<(), Failure> {
     Ok(())
 }
 
+/// The folder of a file that is to be written must be there.
+pub fn look_at_folder(out: &OsStr) -> Result<(), Failure> {
+    let folder = match Path::new(out).parent() {
+        Some(folder) if !folder.as_os_str().is_empty() => folder,
+        _ => Path::new("."),
+    };
+    match fs::metadata(folder) {
+        Ok(found) if found.is_dir() => Ok(()),
+        Ok(_) => Err(named(out, &io::Error::from(io::ErrorKind::NotADirectory))),
+        Err(error) => Err(named(out, &error)),
+    }
+}
+
 pub fn write(out: &OsStr, text: &str) -> Result<(), Failure> {
     fs::write(out, text).map_err(|error| named(out, &error))
 }

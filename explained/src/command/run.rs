@@ -5,7 +5,8 @@ use super::files::{self, print};
 use super::usage::HELP;
 use super::{Failure, DIFFERENT, DONE, NEEDS_ENGINE};
 use crate::hints::hints;
-use crate::picture::{Drawing, Story};
+use crate::lines::cut;
+use crate::picture::{check_length, Drawing, Story};
 use crate::play::Difference;
 use crate::state::Wrong;
 use crate::{ahead, engine, notation, page, report, state};
@@ -13,17 +14,28 @@ use reference::reader::answer_all;
 
 /// Is the call good, and its list? Says whether the engine is needed.
 pub fn check(asked: &Asked) -> Result<u8, Failure> {
-    if asked.task != Task::Help && !files::is_standard_input(&asked.list) {
-        let input = files::read(&asked.list)?;
-        files::digits(&asked.list, &input)?;
-        if let Some(out) = &asked.out {
-            files::keep_apart(&asked.list, out)?;
+    if asked.task != Task::Help {
+        look_at_out(asked)?;
+        if !files::is_standard_input(&asked.list) {
+            let input = files::read(&asked.list)?;
+            files::digits(&asked.list, &input)?;
         }
     }
     Ok(match asked.needs_engine() {
         true => NEEDS_ENGINE,
         false => DONE,
     })
+}
+
+/// Can the result be written where it is to be, and does it not lie on the list?
+fn look_at_out(asked: &Asked) -> Result<(), Failure> {
+    match &asked.out {
+        Some(out) => {
+            files::keep_apart(&asked.list, out)?;
+            files::look_at_folder(out)
+        }
+        None => Ok(()),
+    }
 }
 
 pub fn run(asked: &Asked) -> Result<u8, Failure> {
@@ -37,9 +49,7 @@ pub fn run(asked: &Asked) -> Result<u8, Failure> {
                 .to_string(),
         ));
     }
-    if let Some(out) = &asked.out {
-        files::keep_apart(&asked.list, out)?;
-    }
+    look_at_out(asked)?;
     let input = files::read(&asked.list)?;
     let digits = files::digits(&asked.list, &input)?;
     match asked.task {
@@ -49,32 +59,25 @@ pub fn run(asked: &Asked) -> Result<u8, Failure> {
             for hint in hints(&input) {
                 eprintln!("satuphir: note: {hint}");
             }
-            if asked.quick {
-                eprintln!(
-                    "satuphir: --quick: the second implementation's lines, not the proved engine's"
-                );
-            }
             return with_lines(asked, &digits);
         }
     }
     Ok(DONE)
 }
 
+const QUICK: &str = "the second implementation's, not the proved engine's";
+
 /// What needs the lines of the list.
 fn with_lines(asked: &Asked, digits: &[u8]) -> Result<u8, Failure> {
     let (lines, whose) = match asked.quick {
-        true => (
-            answer_all(digits),
-            "the second implementation's, not the proved engine's",
-        ),
+        true => (answer_all(digits), QUICK),
         false => (engine::lines(digits), "the proved engine's"),
     };
-    let title = files::title(&asked.list);
+    if asked.quick {
+        eprintln!("satuphir: --quick: the lines are {QUICK}");
+    }
     let difference = match asked.task {
-        Task::Play => {
-            print(&lines)?;
-            None
-        }
+        Task::Play => print(&lines).map(|()| None)?,
         Task::State(number) => match state::after(digits, &lines, number) {
             Ok(text) => print(text.as_bytes()).map(|()| None)?,
             Err(Wrong::NoFrame(message)) => return Err(Failure::Usage(message)),
@@ -85,15 +88,18 @@ fn with_lines(asked: &Asked, digits: &[u8]) -> Result<u8, Failure> {
             Err(difference) => Some(difference),
         },
         Task::Page => {
-            let too_long = |message| Failure::File(format!("{title}: {message}"));
-            let page = page::page(&title, whose, digits, &lines).map_err(too_long)?;
-            write_out(asked, &page.html)?;
+            let page = page::page(&title(asked), whose, digits, &lines);
+            let page = page.map_err(|message| too_long(asked, message))?;
+            put_file(asked, &page.html)?;
             page.difference
         }
         _ => {
+            if asked.out.is_some() {
+                check_length(cut(digits).len()).map_err(|message| too_long(asked, message))?;
+            }
             let report = report::report(digits, &lines);
             if asked.out.is_some() {
-                put_picture(asked, &title, &report.story)?;
+                put_picture(asked, &report.story)?;
             }
             if asked.task == Task::Explain {
                 print(report.text.as_bytes())?;
@@ -104,22 +110,37 @@ fn with_lines(asked: &Asked, digits: &[u8]) -> Result<u8, Failure> {
     Ok(status(difference))
 }
 
-fn write_out(asked: &Asked, text: &str) -> Result<(), Failure> {
+/// What stands over a picture or a page. It outlives the run, so it too says whose lines these are not.
+fn title(asked: &Asked) -> String {
+    let name = files::title(&asked.list);
+    match asked.quick {
+        true => format!("{name} (not the proved engine's lines)"),
+        false => name,
+    }
+}
+
+fn too_long(asked: &Asked, message: String) -> Failure {
+    Failure::File(format!("{}: {message}", files::title(&asked.list)))
+}
+
+fn put_file(asked: &Asked, text: &str) -> Result<(), Failure> {
     match &asked.out {
         Some(out) => files::write(out, text),
         None => Ok(()),
     }
 }
 
-fn put_picture(asked: &Asked, title: &str, story: &Story) -> Result<(), Failure> {
-    let too_long = |message| Failure::File(format!("{title}: {message}"));
-    let drawing = Drawing::new(title, story).map_err(too_long)?;
+fn put_picture(asked: &Asked, story: &Story) -> Result<(), Failure> {
+    let drawing = Drawing::new(&title(asked), story);
+    let drawing = drawing.map_err(|message| too_long(asked, message))?;
     if !asked.pages {
-        return write_out(asked, &drawing.whole());
+        return put_file(asked, &drawing.whole());
     }
     let out = asked.out.as_deref().unwrap_or_default();
     for (at, page) in drawing.pages().iter().enumerate() {
-        files::write(&files::page(out, at + 1), page)?;
+        let out = files::page(out, at + 1);
+        files::keep_apart(&asked.list, &out)?;
+        files::write(&out, page)?;
     }
     Ok(())
 }

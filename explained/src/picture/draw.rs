@@ -10,8 +10,19 @@ use super::{arrows, columns, lanes, legend, marks};
 const TITLE_AT: f64 = 30.0;
 const LEGEND_AT: f64 = 56.0;
 
-/// More rows than this are not drawn.
+/// A longer list is not drawn, and no more rows after folding.
+pub const MOST_FRAMES: usize = 5000;
 pub const MOST_ROWS: usize = 1000;
+
+/// Can a list of so many frames be drawn, before it is folded?
+pub fn check_length(frames: usize) -> Result<(), String> {
+    match frames > MOST_FRAMES {
+        true => Err(format!(
+            "too long to draw: {frames} frames, and a picture has at most {MOST_FRAMES}"
+        )),
+        false => Ok(()),
+    }
+}
 
 /// A picture, and where each frame stands in it.
 pub struct Drawing {
@@ -25,6 +36,7 @@ impl Drawing {
     /// Draws a story; one that is too long is named so.
     pub fn new(title: &str, story: &Story) -> Result<Drawing, String> {
         let frames = story.rows.len();
+        check_length(frames)?;
         let (story, places) = fold(story);
         if story.rows.len() > MOST_ROWS {
             return Err(format!(

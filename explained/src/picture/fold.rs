@@ -2,6 +2,7 @@
 
 use super::record::{End, Row, Story};
 use crate::names::count;
+use std::collections::HashMap;
 
 /// The longest round that is looked for.
 const LONGEST: usize = 24;
@@ -41,10 +42,11 @@ struct Stretch {
 }
 
 fn stretches(story: &Story) -> Vec<Stretch> {
+    let rows = Rows::new(story);
     let mut found = Vec::new();
     let mut at = 0;
     while at < story.rows.len() {
-        match (1..=LONGEST).find_map(|round| stretch(story, at, round)) {
+        match (1..=LONGEST).find_map(|round| rows.stretch(at, round)) {
             Some(stretch) => {
                 at = stretch.to;
                 found.push(stretch);
@@ -55,30 +57,58 @@ fn stretches(story: &Story) -> Vec<Stretch> {
     found
 }
 
-/// The stretch whose first round begins at a row, if rounds of this length repeat from there on.
-fn stretch(story: &Story, at: usize, round: usize) -> Option<Stretch> {
-    let rows = &story.rows[at..];
-    let same = rows.iter().zip(rows.get(round..)?);
-    let same = same.take_while(|(one, two)| one.shape == two.shape).count();
-    let hidden = (same / round).checked_sub(1)? * round;
-    let stretch = Stretch {
-        from: at + round,
-        to: at + round + hidden,
-        round,
-    };
-    (hidden >= LEAST && is_closed(story, &stretch)).then_some(stretch)
+/// What folding needs of each row, in numbers.
+struct Rows {
+    /// Rows of one shape have one number.
+    shapes: Vec<usize>,
+    /// The last row in which a packet ends that went out here.
+    ends: Vec<usize>,
+    /// The first row in which a packet went out that ends here.
+    begins: Vec<usize>,
 }
 
-/// Does no packet go in or out? One that stays on the wire may.
-fn is_closed(story: &Story, stretch: &Stretch) -> bool {
-    let inside = |row: usize| (stretch.from..stretch.to).contains(&row);
-    let mut flights = story.flights.iter();
-    flights.all(|flight| {
-        flight
-            .end
-            .row()
-            .is_none_or(|end| inside(flight.sent) == inside(end))
-    })
+impl Rows {
+    fn new(story: &Story) -> Rows {
+        let mut numbers: HashMap<&str, usize> = HashMap::new();
+        let mut number = |shape| {
+            let next = numbers.len();
+            *numbers.entry(shape).or_insert(next)
+        };
+        let mut rows = Rows {
+            shapes: story
+                .rows
+                .iter()
+                .map(|row| number(row.shape.as_str()))
+                .collect(),
+            ends: (0..story.rows.len()).collect(),
+            begins: (0..story.rows.len()).collect(),
+        };
+        for flight in &story.flights {
+            if let Some(end) = flight.end.row() {
+                rows.ends[flight.sent] = rows.ends[flight.sent].max(end);
+                rows.begins[end] = rows.begins[end].min(flight.sent);
+            }
+        }
+        rows
+    }
+
+    /// The stretch whose first round begins at a row, if rounds of this length repeat from there on.
+    fn stretch(&self, at: usize, round: usize) -> Option<Stretch> {
+        let shapes = &self.shapes[at..];
+        let same = shapes.iter().zip(shapes.get(round..)?);
+        let same = same.take_while(|(one, two)| one == two).count();
+        let hidden = (same / round).checked_sub(1)? * round;
+        let (from, to) = (at + round, at + round + hidden);
+        let stretch = Stretch { from, to, round };
+        (hidden >= LEAST && self.is_closed(&stretch)).then_some(stretch)
+    }
+
+    /// Does no packet go in or out? One that stays on the wire may.
+    fn is_closed(&self, stretch: &Stretch) -> bool {
+        let Stretch { from, to, .. } = *stretch;
+        self.begins[from..to].iter().all(|&begin| begin >= from)
+            && self.ends[from..to].iter().rev().all(|&end| end < to)
+    }
 }
 
 /// The row that stands for a stretch.

@@ -84,6 +84,13 @@ fn machines(job: &Job, world: &World) -> Group {
             ),
         };
         group.put(machine.to_string(), format!("machine {machine}: {phase}"));
+        if world.phases[ix(machine)] == Phase::CatchingUp {
+            for chare in job.chares_on(machine) {
+                let target = world.targets[ix(chare)];
+                let text = format!("machine {machine}: chare {chare} has to reach TN {target}");
+                group.put(format!("{machine} {chare}"), text);
+            }
+        }
     }
     group
 }

@@ -39,20 +39,27 @@ fn print(bytes: &[u8]) -> Result<(), Failure> {
 }
 
 fn number<T: std::str::FromStr>(word: &str, what: &str) -> Result<T, Failure> {
-    word.parse().or_else(|_| usage(format!("\"{word}\" is no {what}")))
+    word.parse()
+        .or_else(|_| usage(format!("\"{word}\" is no {what}")))
 }
 
 fn within(word: &str, what: &str, range: RangeInclusive<usize>) -> Result<usize, Failure> {
     match word.parse() {
         Ok(number) if range.contains(&number) => Ok(number),
-        _ => usage(format!("{what} {word} is not from {} to {}", range.start(), range.end())),
+        _ => usage(format!(
+            "{what} {word} is not from {} to {}",
+            range.start(),
+            range.end()
+        )),
     }
 }
 
 fn events(word: &str) -> Result<Vec<Event>, Failure> {
     let event = |name: &str| match Event::ALL.into_iter().find(|event| event.name() == name) {
         Some(event) => Ok(event),
-        None => usage(format!("--with has no \"{name}\": crash, restart, hole or ff")),
+        None => usage(format!(
+            "--with has no \"{name}\": crash, restart, hole or ff"
+        )),
     };
     word.split(',').map(event).collect()
 }
@@ -71,7 +78,9 @@ fn wish(args: &[&str]) -> Result<(), Failure> {
             None => usage(format!("{arg} needs a value")),
         };
         match arg {
-            "--machines" => wish.machines = Some(within(value()?, "--machines", MIN_MACHINES..=MAX_MACHINES)?),
+            "--machines" => {
+                wish.machines = Some(within(value()?, "--machines", MIN_MACHINES..=MAX_MACHINES)?)
+            }
             "--chares" => wish.chares = Some(within(value()?, "--chares", 1..=MAX_CHARES)?),
             "--frames" => wish.frames = within(value()?, "--frames", 1..=100_000)?,
             "--with" => wish.with = events(value()?)?,
@@ -100,9 +109,10 @@ fn run(args: &[&str]) -> Result<(), Failure> {
             Some(limit) => print(&limit_list(limit)),
             None => usage(format!("there is no long list \"{name}\"")),
         },
-        [seed, frames] if !seed.starts_with('-') && !frames.starts_with('-') => {
-            print(&list(number(seed, "seed")?, number(frames, "number of frames")?))
-        }
+        [seed, frames] if !seed.starts_with('-') && !frames.starts_with('-') => print(&list(
+            number(seed, "seed")?,
+            number(frames, "number of frames")?,
+        )),
         [folder, seed, count, frames] if !args.iter().any(|arg| arg.starts_with('-')) => {
             let seed: u64 = number(seed, "seed")?;
             let count: u64 = number(count, "number of lists")?;
@@ -119,7 +129,10 @@ fn run(args: &[&str]) -> Result<(), Failure> {
 }
 
 fn main() -> ExitCode {
-    let args: Vec<String> = std::env::args_os().skip(1).map(|arg| arg.to_string_lossy().into_owned()).collect();
+    let args: Vec<String> = std::env::args_os()
+        .skip(1)
+        .map(|arg| arg.to_string_lossy().into_owned())
+        .collect();
     let args: Vec<&str> = args.iter().map(String::as_str).collect();
     match run(&args) {
         Ok(()) => ExitCode::SUCCESS,
