@@ -43,7 +43,7 @@ fn either_form_gives_digits() {
 #[test]
 fn blanks_comments_capitals_and_line_ends_do_not_matter() {
     let list = "\u{FEFF}# a list\r\n\r\n  JOB 2 Machines buddies 2,1 # two\r\n\tchare 1 on 1, to 2\r\nchare 2 on 2\r\n\
-                Inject 1, value 0x3, hops 1 # one\r\ndeliver ask 0 → 1 #1 # it asks\r\n";
+                Inject 1, value 0x3, hops 1# one\r\ndeliver ask 0 → 1 #1 # it asks\r\n";
     let want: String = DIGITS.split_inclusive('\n').take(3).collect();
     assert_eq!(encode(list.as_bytes()), Ok(want.into_bytes()));
 }

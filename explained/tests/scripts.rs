@@ -13,32 +13,115 @@ fn tools() -> PathBuf {
     Path::new(env!("CARGO_MANIFEST_DIR")).join("../tools")
 }
 
-/// A clone in which nothing is built, and an `rt` that only says that it was called.
-fn unbuilt(name: &str) -> (PathBuf, String) {
+/// A script that can be run.
+fn put_script(file: &Path, text: &str) {
+    fs::write(file, format!("#!/bin/sh\n{text}\n")).expect("a script");
+    fs::set_permissions(file, fs::Permissions::from_mode(0o755)).expect("to be run");
+}
+
+/// A clone in which nothing is built but the command itself; its `rt` does what is given, its cargo nothing.
+fn unbuilt(name: &str, rt: &str) -> (PathBuf, String) {
     let root = fresh(name);
-    let bin = root.join("bin");
-    for folder in ["tools", "bin"] {
-        fs::create_dir(root.join(folder)).expect("a folder");
+    let built = ["explained/target/quick/release", "explained/target/release"];
+    for folder in ["tools", "bin", "crates"].iter().chain(&built) {
+        fs::create_dir_all(root.join(folder)).expect("a folder");
     }
-    fs::copy(tools().join("sitting.sh"), root.join("tools/sitting.sh")).expect("a copy");
+    for script in ["sitting.sh", "satuphir"] {
+        fs::copy(tools().join(script), root.join("tools").join(script)).expect("a copy");
+    }
+    for folder in built {
+        fs::copy(
+            env!("CARGO_BIN_EXE_satuphir"),
+            root.join(folder).join("satuphir"),
+        )
+        .expect("a copy");
+    }
     fs::write(
-        bin.join("rt"),
-        "#!/bin/sh\necho rt was called >&2\nexit 1\n",
+        root.join("crates.txt"),
+        "lists:\nsatuphir: lists protocol window\n",
     )
-    .expect("a script");
-    fs::set_permissions(bin.join("rt"), fs::Permissions::from_mode(0o755)).expect("to be run");
+    .expect("a file");
+    put_script(&root.join("bin/rt"), rt);
+    put_script(&root.join("bin/cargo"), "");
     let path = format!(
         "{}:{}",
-        bin.display(),
+        root.join("bin").display(),
         std::env::var("PATH").expect("a path")
     );
     (root, path)
 }
 
+/// Runs a script of such a clone.
+fn run_there(root: &Path, path: &str, words: &[&str]) -> (i32, String, String) {
+    let mut run = Command::new("bash");
+    let run = run.args(words).current_dir(root).env("PATH", path);
+    result(run.env_remove("SATUPHIR_COMMAND").output().expect("a run"))
+}
+
+const CALLED: &str = "echo rt was called >&2; exit 1";
+
+/// A bad call is named before anything is proved; what needs no engine is done without.
+#[test]
+fn satuphir_looks_at_the_call_first() {
+    let (root, path) = unbuilt("call-first", CALLED);
+    fs::write(root.join("bad"), "work x\n").expect("a list");
+    fs::write(root.join("good"), "work 1\n").expect("a list");
+    for (words, status, out, error) in [
+        (&["play", "nofile"][..], 2, "", "satuphir: nofile: No such file or directory (os error 2)\n"),
+        (&["play", "bin"], 2, "", "satuphir: bin: Is a directory (os error 21)\n"),
+        (&["play", "bad"], 2, "", "satuphir: bad, line 1, column 6: expected a chare, from 0 to 255, found \"x\"\n"),
+        (&["picture", "good", "no/out.svg"], 2, "", "satuphir: no/out.svg: No such file or directory (os error 2)\n"),
+        (&["encode", "good"], 0, "1201\n", ""),
+        (
+            &["play", "good", "--quick"],
+            0,
+            "02\n",
+            "satuphir: --quick: the lines are the second implementation's, not the proved engine's\n",
+        ),
+    ] {
+        let words: Vec<&str> = ["tools/satuphir"].iter().chain(words).copied().collect();
+        let want = (status, out.to_string(), error.to_string());
+        assert_eq!(run_there(&root, &path, &words), want, "{words:?}");
+    }
+}
+
+/// The first call that needs the engine says what it does and how far it is; one that fails says where to look.
+#[test]
+fn satuphir_says_how_far_it_is() {
+    let proving =
+        "echo 'fn some: proved'; echo 'rt: lists proved (1 s)'; echo 'rt: protocol proved (16 s)'";
+    let said = "satuphir: proving and building the engine: 3 crates, about nine minutes the first time (--quick does without)\n\
+                satuphir: proved 1 of 3: lists\nsatuphir: proved 2 of 3: protocol\n";
+    let library = "mkdir -p target/staticlib && touch target/staticlib/libsatuphir.a";
+    let (root, path) = unbuilt("how-far", &format!("{proving}; {library}"));
+    fs::write(root.join("good"), "work 1\n").expect("a list");
+    let words = ["tools/satuphir", "play", "good"];
+    assert_eq!(
+        run_there(&root, &path, &words),
+        (0, "02\n".to_string(), said.to_string())
+    );
+    // The second time it is there.
+    assert_eq!(
+        run_there(&root, &path, &words),
+        (0, "02\n".to_string(), String::new())
+    );
+    let (root, path) = unbuilt("not-far", &format!("{proving}; exit 1"));
+    fs::write(root.join("good"), "work 1\n").expect("a list");
+    let log = root.join("target/satuphir.log");
+    let said = format!(
+        "{said}satuphir: the engine was not built; {} says why\n",
+        log.display()
+    );
+    assert_eq!(run_there(&root, &path, &words), (2, String::new(), said));
+    assert!(fs::read_to_string(log)
+        .expect("a log")
+        .contains("fn some: proved"));
+}
+
 /// A list that cannot be read is named at once, before minutes of proving.
 #[test]
 fn sitting_looks_at_its_list_first() {
-    let (root, path) = unbuilt("sitting");
+    let (root, path) = unbuilt("sitting", CALLED);
     for (list, message) in [
         (
             &["nofile"][..],
@@ -48,13 +131,8 @@ fn sitting_looks_at_its_list_first() {
         (&[], "usage: sitting.sh LIST\n"),
         (&["a", "b"], "usage: sitting.sh LIST\n"),
     ] {
-        let mut run = Command::new("bash");
-        let run = run
-            .arg("tools/sitting.sh")
-            .args(list)
-            .current_dir(&root)
-            .env("PATH", &path);
-        let (status, out, error) = result(run.output().expect("a run"));
+        let words: Vec<&str> = ["tools/sitting.sh"].iter().chain(list).copied().collect();
+        let (status, out, error) = run_there(&root, &path, &words);
         assert_eq!((status, out.as_str(), error.as_str()), (2, "", message));
     }
 }

@@ -245,6 +245,44 @@ fn lists_with_a_note() {
     assert!(error.contains("CR LF"), "{error}");
 }
 
+/// No subcommand stumbles over an empty list, a binary file or CR LF: each says its word and goes on.
+#[test]
+fn odd_lists_in_every_subcommand() {
+    let folder = fresh("odd");
+    for (name, bytes, word) in [
+        ("empty", &b""[..], "the list is empty"),
+        (
+            "binary",
+            b"\x7FELF\x02\0\n\0\xFF\n",
+            "no line of this is a frame",
+        ),
+        ("returns", b"1201\r\n1601\r\n", "2 of 2 lines end in CR LF"),
+    ] {
+        let list = folder.join(name);
+        fs::write(&list, bytes).expect("a list");
+        for args in with_list(list.as_os_str()) {
+            let (status, out, error) = run(&args);
+            let task = args[0].to_string_lossy();
+            // An empty list has no frame 1.
+            if task == "state" && name == "empty" {
+                assert_eq!((status, out.as_str()), (2, ""));
+                assert!(
+                    error.contains("there is no frame 1: the list has 0 frames"),
+                    "{error}"
+                );
+                continue;
+            }
+            assert_eq!(status, 0, "{args:?}: {error}");
+            let silent = task == "encode" || task == "decode";
+            assert_eq!(
+                error.starts_with(&format!("satuphir: note: {word}")),
+                !silent,
+                "{args:?}: {error}"
+            );
+        }
+    }
+}
+
 #[test]
 fn a_mistake_in_words() {
     let folder = fresh("mistake");

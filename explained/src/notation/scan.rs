@@ -20,7 +20,7 @@ pub struct Scan<'a> {
 }
 
 impl<'a> Scan<'a> {
-    /// Blanks and commas part the pieces; an arrow is one by itself.
+    /// Blanks and commas part the pieces; an arrow is one by itself, and `#` begins one.
     pub fn new(line: usize, text: &'a str) -> Scan<'a> {
         let mut pieces: Vec<Piece> = Vec::new();
         let mut open = false;
@@ -36,7 +36,7 @@ impl<'a> Scan<'a> {
                     text: whole,
                 });
                 open = false;
-            } else if let (true, Some(last)) = (open, pieces.last_mut()) {
+            } else if let (true, Some(last)) = (open && letter != '#', pieces.last_mut()) {
                 let from = at - last.text.len();
                 last.text = &text[from..at + letter.len_utf8()];
             } else {

@@ -12,7 +12,7 @@ pub fn satuphir() -> Command {
 
 /// What a run gave: status, standard output, standard error.
 pub fn result(output: Output) -> (i32, String, String) {
-    let text = |bytes: Vec<u8>| String::from_utf8(bytes).expect("text");
+    let text = |bytes: Vec<u8>| String::from_utf8_lossy(&bytes).into_owned();
     let status = output.status.code().expect("no signal");
     (status, text(output.stdout), text(output.stderr))
 }
