@@ -51,7 +51,11 @@ fn listed(state: &State) -> String {
             "Packets that are blocked",
         ),
         (works, "Works that can be done", "Works that are blocked"),
-        (machines, "What machines can do", "What machines cannot do"),
+        (
+            machines,
+            "What machines can do",
+            "What machines cannot do, or not without losing the run",
+        ),
     ] {
         let (open, blocked): (Vec<Try>, Vec<Try>) = tries
             .into_iter()

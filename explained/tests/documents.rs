@@ -93,19 +93,14 @@ fn the_calls_of_readme() {
             .split("tools/satuphir ")
             .skip(1)
             .filter_map(|rest| rest.split([' ', '`', '\n']).next());
-        let mut names: Vec<String> = calls
-            .filter(|name| name.bytes().all(|b| b.is_ascii_lowercase()))
-            .map(str::to_string)
-            .collect();
+        let is_name =
+            |name: &&str| !name.is_empty() && name.bytes().all(|b| b.is_ascii_lowercase());
+        let mut names: Vec<String> = calls.filter(is_name).map(str::to_string).collect();
         names.sort();
         names.dedup();
         names
     };
-    let mut of_readme = called(&readme);
-    of_readme.retain(|name| !name.is_empty());
-    let mut of_help = called(&help);
-    of_help.retain(|name| !name.is_empty());
-    assert_eq!(of_readme, of_help);
+    assert_eq!(called(&readme), called(&help));
 }
 
 /// The rule book's sitting in README: frame, words and line of each row.

@@ -24,9 +24,8 @@ impl<'a> Scan<'a> {
     pub fn new(line: usize, text: &'a str) -> Scan<'a> {
         let mut pieces: Vec<Piece> = Vec::new();
         let mut open = false;
-        let mut column = 0;
-        for (at, letter) in text.char_indices() {
-            column += 1;
+        for (before, (at, letter)) in text.char_indices().enumerate() {
+            let column = before + 1;
             let whole = &text[at..at + letter.len_utf8()];
             if letter.is_whitespace() || letter == ',' {
                 open = false;
