@@ -182,6 +182,7 @@ fn state_shows_all_that_stands() {
 fn state_shows_what_is_rarer() {
     for (name, frame, want) in [
         ("08-holes", "17", "  * hole: TN 3\n"),
+        ("08-holes", "17", "  * 110300010002  DATA 0→1 #2 (value 2 (hex 0002), hops 0) from the desk to machine 1\n"),
         (
             "08-holes",
             "17",

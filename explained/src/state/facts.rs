@@ -9,9 +9,10 @@ use reference::job::{ix, Job};
 use reference::limits::{
     DESK, LOG_SIZE, MAX_CHARES, NOTES_SIZE, TABLE_SIZE, WINDOW_BITS, WIRE_SIZE,
 };
-use reference::message::Log;
+use reference::message::{Body, Log};
 use reference::seen::Seen;
 use reference::state::State;
+use reference::wire::Content;
 use reference::world::{destination, Phase, World};
 
 pub struct Fact {
@@ -238,8 +239,12 @@ fn wire(job: &Job, world: &World) -> Group {
     for (at, (name, content)) in world.wire.packets().enumerate() {
         let same = names[..at].iter().filter(|&&other| other == name).count();
         let (from, to) = (origin(job, name), destination(job, name));
+        let carried = match content {
+            Content::Data { value, hops } => format!(" ({})", body(Body { value, hops })),
+            _ => String::new(),
+        };
         let text = format!(
-            "{}  {} from {} to {}",
+            "{}  {}{carried} from {} to {}",
             digits_of(&delivery(name)),
             packet(name, content),
             place(from),
