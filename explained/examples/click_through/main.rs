@@ -97,11 +97,13 @@ fn check(browser: &mut Browser, moments: &[Moment], at: usize) {
         .filter(|line| line.starts_with(['*', '-']))
         .count();
     same("marks", frame, &marked, &changes.to_string());
-    // The row of the frame is marked, and in sight.
-    let seen = browser.value(
-        "(() => { const r = row.getBoundingClientRect(), p = picture.getBoundingClientRect(); \
-         return String(r.height > 0 && r.top >= p.top - 1 && r.top < p.bottom); })()",
-    );
+    // The row with the frame's number is marked, and in sight; a folded frame has no number.
+    let seen = browser.value(&format!(
+        "(() => {{ const r = row.getBoundingClientRect(), p = picture.getBoundingClientRect(); \
+         const number = [...svg.querySelectorAll('text.quiet')].find(t => t.textContent === '{frame}'); \
+         const n = number ? number.getBoundingClientRect() : r; \
+         return String(r.height > 0 && r.top >= p.top - 1 && r.top < p.bottom && r.top <= n.top && n.bottom <= r.bottom); }})()"
+    ));
     same("row in sight", frame, &seen, "true");
 }
 
@@ -155,7 +157,8 @@ fn main() -> ExitCode {
         let shown = browser.value("document.getElementById('packet').textContent");
         assert_eq!(&shown, title, "packet {}", at + 1);
     }
-    assert!(!titles.is_empty());
+    let labels = browser.value("String(document.querySelectorAll('.packet text').length)");
+    assert_eq!(labels, titles.len().to_string(), "packets");
     browser.close();
     println!(
         "the page shows what the list gives: {} frames by button and key, {} packets pointed at, nothing fetched, no error",
