@@ -16,27 +16,29 @@ pub fn decode(input: &[u8]) -> String {
 /// A line of digits in words; a job has a line for each chare too.
 pub fn words(line: &[u8]) -> Vec<String> {
     match parse(line) {
-        Some(Frame::Job(draft)) if !fits(&draft) => vec![as_it_stands(line)],
-        Some(Frame::Job(draft)) => job(&draft),
-        Some(frame) => vec![plain(&frame)],
-        None => vec![as_it_stands(line)],
+        Some(frame) if fits(&frame) => spelt(&frame),
+        _ => vec![as_it_stands(line)],
     }
 }
 
-/// The same in one line; none if the line is no frame.
+/// A frame in one line.
 pub fn one_line(frame: &Frame) -> String {
     match frame {
-        Frame::Job(draft) if !fits(draft) => {
+        Frame::Job(draft) if !fits(frame) => {
             format!("job {} machines, {} chares", draft.machines, draft.chares)
         }
-        Frame::Job(draft) => job(draft).join("; "),
-        frame => plain(frame),
+        frame => spelt(frame).join("; "),
     }
 }
 
-/// A draft that keeps the whole frame. What is larger is out of range by its counts, and stays digits.
-fn fits(draft: &Draft) -> bool {
-    usize::from(draft.machines) <= MAX_MACHINES && usize::from(draft.chares) <= MAX_CHARES
+/// Does the draft of a job keep all of it? What is larger is out of range by its counts, and stays digits.
+fn fits(frame: &Frame) -> bool {
+    match frame {
+        Frame::Job(draft) => {
+            usize::from(draft.machines) <= MAX_MACHINES && usize::from(draft.chares) <= MAX_CHARES
+        }
+        _ => true,
+    }
 }
 
 fn as_it_stands(line: &[u8]) -> String {
@@ -65,9 +67,9 @@ fn job(draft: &Draft) -> Vec<String> {
     [first].into_iter().chain(chares).collect()
 }
 
-fn plain(frame: &Frame) -> String {
-    match *frame {
-        Frame::Job(ref draft) => job(draft).join("; "),
+fn spelt(frame: &Frame) -> Vec<String> {
+    let line = match *frame {
+        Frame::Job(ref draft) => return job(draft),
         Frame::Inject { chare, value, hops } => format!("inject {chare} value {value} hops {hops}"),
         Frame::Deliver {
             kind,
@@ -75,8 +77,8 @@ fn plain(frame: &Frame) -> String {
             receiver,
             sn,
         } => {
-            let kind = Kind::from_byte(kind)
-                .map_or(kind.to_string(), |kind| names::kind(kind).to_string());
+            let named = Kind::from_byte(kind).map(|kind| names::kind(kind).to_string());
+            let kind = named.unwrap_or(kind.to_string());
             format!("deliver {kind} {sender}>{receiver} #{sn}")
         }
         Frame::Work { chare } => format!("work {chare}"),
@@ -84,5 +86,6 @@ fn plain(frame: &Frame) -> String {
         Frame::Crash { machine } => format!("crash {machine}"),
         Frame::Restart { machine } => format!("restart {machine}"),
         Frame::Show { chare } => format!("show {chare}"),
-    }
+    };
+    vec![line]
 }

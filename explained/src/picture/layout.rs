@@ -91,11 +91,10 @@ impl Layout {
         for row in &story.rows {
             let lines = headline(row).len() as f64 * HEADLINE_STEP + 5.0;
             let height = (slots(row).max(LEAST_SLOTS) as f64 * SLOT).max(lines) + ROW_GAP;
-            let begins = self.pages[self.pages.len() - 1].0;
-            // A row is never cut, unless a page is too small for it.
-            let fresh = self.rows.last().is_none() || top == self.pages[self.pages.len() - 1].1;
-            if top + height + FOOT > begins + self.page && !fresh {
-                let page = begins + self.page.max(top + FOOT - begins);
+            let (begins, first) = self.pages[self.pages.len() - 1];
+            // A row is never cut; one that is higher than a page stands first on its own.
+            if top > first && top + height + FOOT > begins + self.page {
+                let page = (begins + self.page).max(top + FOOT);
                 top = page + PAGE_TITLE + HEADS;
                 self.pages.push((page, top));
             }
