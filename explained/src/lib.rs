@@ -1,7 +1,10 @@
-//! A list of frames explained for students, frame by frame, in words and in a picture.
+//! The command for people: lists in words, played, explained and drawn; what stands where, and what can come next.
 
 // The list and its lines.
+pub mod engine;
+pub mod hints;
 pub mod lines;
+pub mod notation;
 pub mod play;
 pub mod report;
 
@@ -11,4 +14,11 @@ pub mod outcome;
 pub mod traffic;
 pub mod words;
 
+// What stands, and what can come next.
+pub mod ahead;
+pub mod state;
+
+pub mod page;
 pub mod picture;
+
+pub mod command;

@@ -2,6 +2,7 @@
 
 use reference::job::Job;
 use reference::limits::DESK;
+use reference::message::Body;
 use reference::wire::{Content, Kind, Name};
 
 /// A machine, or the desk for 0.
@@ -23,6 +24,16 @@ pub fn sender(number: u8) -> String {
 /// A message by sender, receiver and SN.
 pub fn message(sender: u8, receiver: u8, sn: u16) -> String {
     format!("{sender}→{receiver} #{sn}")
+}
+
+/// A value: decimal, as lists in words have it, and hexadecimal, as frames and states do.
+pub fn value(value: u16) -> String {
+    format!("{value} (hex {value:04X})")
+}
+
+/// What a message carries.
+pub fn body(body: Body) -> String {
+    format!("value {}, hops {}", value(body.value), body.hops)
 }
 
 pub fn kind(kind: Kind) -> &'static str {
@@ -50,6 +61,25 @@ pub fn packet(name: Name, content: Content) -> String {
         Content::GrantNew(tn) => format!("{short} (new, TN {tn})"),
         Content::Note(tn) => format!("{short} (TN {tn})"),
         Content::Ask | Content::Data { .. } | Content::Ack => short,
+    }
+}
+
+/// What a packet says.
+pub fn meaning(name: Name, content: Content) -> String {
+    let what = message(name.sender(), name.receiver(), name.sn());
+    let (from, to) = (sender(name.sender()), sender(name.receiver()));
+    match content {
+        Content::Ask => format!("{from} asks {to} for a ticket for {what}"),
+        Content::GrantOld => format!("{to} answers that {what} is worked: old"),
+        Content::GrantReceived(tn) => {
+            format!("{to} answers that {what} has TN {tn} and is received")
+        }
+        Content::GrantNew(tn) => format!("{to} gives {what} TN {tn}, and waits for the message"),
+        Content::Data { value, hops } => {
+            format!("the message {what} itself ({})", body(Body { value, hops }))
+        }
+        Content::Note(tn) => format!("for the buddy to note: {what} has TN {tn}"),
+        Content::Ack => format!("the buddy has noted the ticket of {what}"),
     }
 }
 

@@ -1,6 +1,7 @@
 //! Plays a list with the second implementation and compares each line with the engine's.
 
 use crate::lines::{cut, escaped, shown};
+use crate::notation::{digits_of, one_line};
 use reference::answer::Answer;
 use reference::frame::{parse, Frame};
 use reference::job::Job;
@@ -28,6 +29,15 @@ impl Step<'_> {
     /// The job as this frame leaves it.
     pub fn job(&self) -> Option<&Job> {
         self.after.job.as_ref()
+    }
+
+    /// The frame in digits and in words, with its line.
+    pub fn head(&self) -> String {
+        let digits = shown(self.given);
+        match &self.frame {
+            Some(frame) => format!("{digits}  {}  ->  {}", one_line(frame), self.line),
+            None => format!("{digits}  ->  {}", self.line),
+        }
     }
 }
 
@@ -96,6 +106,24 @@ pub fn play(input: &[u8], engine: &[u8], mut see: impl FnMut(&Step)) -> Result<(
             None,
         )),
     }
+}
+
+/// Shows what a frame would do to a state, which stays as it is.
+pub fn probe<T>(before: &State, frame: &Frame, see: impl FnOnce(&Step) -> T) -> T {
+    let mut after = before.clone();
+    let answer = after.step(frame);
+    let mut line = Vec::new();
+    answer.print(&mut line);
+    see(&Step {
+        number: 0,
+        given: digits_of(frame).as_bytes(),
+        frame: Some(*frame),
+        answer,
+        line: std::str::from_utf8(&line).unwrap_or_default().trim_end(),
+        before,
+        after: &after,
+        lost_at: None,
+    })
 }
 
 fn difference(

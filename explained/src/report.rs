@@ -1,6 +1,6 @@
 //! The whole output: the text of a list, its story, and the first difference if there is one.
 
-use crate::lines::{shown, wrapped};
+use crate::lines::wrapped;
 use crate::picture::{Recorder, Story};
 use crate::play::{play, Difference, Step};
 use crate::words;
@@ -42,13 +42,7 @@ pub fn report(input: &[u8], engine: &[u8]) -> Report {
 }
 
 fn put_step(text: &mut String, step: &Step) {
-    let head = format!(
-        "{:>4}  {}  ->  {}\n",
-        step.number,
-        shown(step.given),
-        step.line
-    );
-    text.push_str(&head);
+    text.push_str(&format!("{:>4}  {}\n", step.number, step.head()));
     for line in words::words(step) {
         text.push_str(&wrapped(&line, INDENT, WIDTH));
     }

@@ -37,6 +37,16 @@ pub fn named(frame: &Frame) -> Option<Name> {
     }
 }
 
+/// The frame that delivers a packet.
+pub fn delivery(name: Name) -> Frame {
+    Frame::Deliver {
+        kind: name.kind() as u8,
+        sender: name.sender(),
+        receiver: name.receiver(),
+        sn: name.sn(),
+    }
+}
+
 /// The change that an accepted frame made.
 pub fn change(job: &Job, frame: &Frame, before: &Wire, after: &Wire) -> Change {
     let mut change = Change::default();

@@ -1,66 +1,305 @@
-//! The command as a tutor runs it.
+//! Every subcommand as a person runs it. The lines that are expected come from the second implementation.
 
 mod common;
 
-use common::{explained, folder, list};
-use explained::picture::draw;
-use std::io::Write;
-use std::process::{Command, Output, Stdio};
+use common::run::{fed, fresh, run};
+use common::{drawn, explained, folder, list};
+use explained::notation::decode;
+use reference::reader::answer_all;
+use std::fs;
+use std::path::PathBuf;
 
-const NAME: &str = "01-plain-delivery";
+const NAME: &str = "05-crash-with-cover";
 
-fn explain() -> Command {
-    Command::new(env!("CARGO_BIN_EXE_explain"))
+/// The rule book's sitting in words.
+const WORDS: &str = "\
+# my sitting
+job 2 machines, buddies 2 1
+chare 1 on 1 to 2
+chare 2 on 2
+
+inject 1 value 3 hops 1
+deliver ASK 0>1 #1
+deliver GRANT 0>1 #1
+deliver DATA 0>1 #1      # it has TN 1
+work 1
+crash 1
+show 1
+";
+
+fn file(name: &str) -> String {
+    folder().join(format!("{name}.in")).display().to_string()
 }
 
-fn out(output: &Output) -> String {
-    String::from_utf8(output.stdout.clone()).expect("text")
+fn lines(list: &[u8]) -> String {
+    String::from_utf8(answer_all(list)).expect("digits")
 }
 
-#[test]
-fn a_file() {
-    let file = folder().join(format!("{NAME}.in"));
-    let output = explain().arg(file).output().expect("a run");
-    assert!(output.status.success());
-    assert_eq!(out(&output), explained(&list(NAME)).text);
-    assert!(output.stderr.is_empty());
-}
-
-#[test]
-fn standard_input_and_a_picture() {
-    let picture = std::env::temp_dir().join(format!("explain-{}.svg", std::process::id()));
-    let mut run = explain()
-        .arg("--picture")
-        .args([picture.as_os_str(), "-".as_ref()])
-        .stdin(Stdio::piped())
-        .stdout(Stdio::piped())
-        .stderr(Stdio::null())
-        .spawn()
-        .expect("a run");
-    let input = list(NAME);
-    run.stdin
-        .take()
-        .expect("an input")
-        .write_all(&input)
-        .expect("written");
-    let output = run.wait_with_output().expect("an end");
-    assert!(output.status.success());
-    assert_eq!(out(&output), explained(&input).text);
-    let drawn = std::fs::read_to_string(&picture).expect("a picture");
-    std::fs::remove_file(&picture).expect("removed");
-    assert_eq!(drawn, draw("standard input", &explained(&input).story));
+fn said_nothing(error: &str) {
+    assert_eq!(error, "");
 }
 
 #[test]
-fn what_cannot_be_done() {
+fn help_is_on_standard_output() {
+    for args in [&["--help"][..], &["-h"], &["help"], &["play", "--help"]] {
+        let (status, out, error) = run(args);
+        assert_eq!(status, 0);
+        for name in [
+            "play", "explain", "picture", "page", "state", "next", "encode", "decode",
+        ] {
+            assert!(out.contains(&format!("tools/satuphir {name} ")), "{out}");
+        }
+        said_nothing(&error);
+    }
+}
+
+#[test]
+fn play_gives_the_lines() {
+    for name in common::names() {
+        let (status, out, _) = run(&["play", &file(&name)]);
+        assert_eq!((status, out), (0, lines(&list(&name))), "{name}");
+    }
+}
+
+#[test]
+fn every_subcommand_takes_words_and_digits() {
+    let digits = "0102020201010200020000\n1001000301\n110100010001\n110200010001\n110300010001\n1201\n1401\n1601\n";
     for args in [
-        &[][..],
-        &["--picture", "x.svg"],
-        &["a", "b"],
-        &["no such file"],
+        &["play", "-"][..],
+        &["explain", "-"],
+        &["state", "6", "-"],
+        &["next", "-"],
+        &["encode", "-"],
+        &["decode", "-"],
     ] {
-        let output = explain().args(args).output().expect("a run");
-        assert_eq!(output.status.code(), Some(2), "{args:?}");
-        assert!(output.stdout.is_empty() && !output.stderr.is_empty());
+        let (in_words, in_digits) = (fed(args, WORDS.as_bytes()), fed(args, digits.as_bytes()));
+        assert_eq!(in_words, in_digits, "{args:?}");
+        assert_eq!(in_words.0, 0);
+        said_nothing(&in_words.2);
+    }
+    let (_, out, _) = fed(&["play", "-"], WORDS.as_bytes());
+    assert_eq!(out, "00\n00\n00\n00\n00\n00\n00\n05\n");
+    let (_, out, _) = fed(&["encode", "-"], WORDS.as_bytes());
+    assert_eq!(out, digits);
+    let (_, out, _) = fed(&["decode", "-"], digits.as_bytes());
+    assert_eq!(out, decode(digits.as_bytes()));
+    // Either form of a list gives the same picture and the same page.
+    let folder = fresh("either-form");
+    for (task, end) in [("picture", "svg"), ("page", "html")] {
+        let made = [("a", WORDS), ("b", digits)].map(|(name, list)| {
+            let out = folder.join(format!("{name}.{end}"));
+            let (status, said, error) =
+                fed(&[task, "-", &out.display().to_string()], list.as_bytes());
+            assert_eq!((status, said.as_str(), error.as_str()), (0, "", ""));
+            fs::read_to_string(out).expect("a file")
+        });
+        assert!(made[0] == made[1], "{task}");
+    }
+}
+
+#[test]
+fn explain_gives_words() {
+    let (status, out, error) = run(&["explain", &file(NAME)]);
+    assert_eq!((status, out), (0, explained(&list(NAME)).text));
+    said_nothing(&error);
+}
+
+/// Options may stand after the list.
+#[test]
+fn explain_gives_a_picture_too() {
+    let folder = fresh("explain-picture");
+    let (list_file, out) = (file(NAME), folder.join("out.svg"));
+    let out = out.to_str().expect("a name");
+    for args in [
+        ["explain", "--picture", out, &list_file],
+        ["explain", &list_file, "--picture", out],
+    ] {
+        let _ = fs::remove_file(out);
+        let (status, said, error) = run(&args);
+        let report = explained(&list(NAME));
+        assert_eq!((status, said), (0, report.text));
+        said_nothing(&error);
+        assert!(fs::read_to_string(out).expect("a picture") == drawn(NAME, &report.story));
+    }
+}
+
+#[test]
+fn picture_and_its_pages() {
+    let folder = fresh("pictures");
+    let at = |name: &str| folder.join(name);
+    let name = "11-full-window";
+    let args = |more: &[&str]| {
+        let out = at("out.svg").display().to_string();
+        let args = ["picture".to_string(), file(name), out];
+        args.into_iter()
+            .chain(more.iter().map(|word| word.to_string()))
+            .collect::<Vec<_>>()
+    };
+    let (status, out, error) = run(&args(&[]));
+    assert_eq!((status, out.as_str(), error.as_str()), (0, "", ""));
+    let story = explained(&list(name)).story;
+    assert!(fs::read_to_string(at("out.svg")).expect("a picture") == drawn(name, &story));
+    assert_eq!(run(&args(&["--pages"])).0, 0);
+    let there: Vec<PathBuf> = ["out-1.svg", "out-2.svg"].map(at).to_vec();
+    assert!(there.iter().all(|file| file.is_file()) && !at("out-3.svg").exists());
+}
+
+#[test]
+fn state_shows_all_that_stands() {
+    let (status, out, error) = fed(&["state", "6", "-"], WORDS.as_bytes());
+    assert_eq!(status, 0);
+    said_nothing(&error);
+    for want in [
+        "After frame 6:  1201  work 1  ->  00\n",
+        "    machine 1: up\n",
+        "  * height 1, state 00000023 (before: height 0, state 00000001)\n",
+        "  * worked of the desk: mark 1, window empty\n",
+        "  * log, 1→2 #1 (value 35 (hex 0023), hops 0): no TN yet\n",
+        "    copy of chare 1: height 0, state 00000001\n",
+        "  * 110101020001  ASK 1→2 #1 from machine 1 to machine 2\n",
+    ] {
+        assert!(out.contains(want), "nowhere: {want}{out}");
+    }
+    let (_, out, _) = fed(&["state", "7", "-"], WORDS.as_bytes());
+    for want in [
+        "  * machine 1: DOWN (before: machine 1: up)\n",
+        "  * nothing: machine 1 is down\n  - height 1, state 00000023\n",
+        "  * NO copy: a crash of it would have no cover (before: a copy of it)\n",
+    ] {
+        assert!(out.contains(want), "nowhere: {want}{out}");
+    }
+    let (_, out, _) = fed(&["state", "8", "-"], WORDS.as_bytes());
+    assert!(out.contains("It changed nothing.\n"), "{out}");
+    let (_, out, _) = fed(&["state", "0", "-"], WORDS.as_bytes());
+    assert!(
+        out.contains("Before the first frame\n") && out.contains("    no job is set\n"),
+        "{out}"
+    );
+}
+
+/// Holes, notes, windows and the TN to reach.
+#[test]
+fn state_shows_what_is_rarer() {
+    for (name, frame, want) in [
+        ("08-holes", "17", "  * hole: TN 3\n"),
+        ("08-holes", "17", "  * 110300010002  DATA 0→1 #2 (value 2 (hex 0002), hops 0) from the desk to machine 1\n"),
+        (
+            "08-holes",
+            "17",
+            "  * machine 1: catching up: chare 1 must work on to TN 2 (height 1)",
+        ),
+        (
+            "08-holes",
+            "17",
+            "  * machine 1: chare 1 has to reach TN 2\n",
+        ),
+        ("04-checkpoint", "7", "  * note: 1→2 #1 has TN 1\n"),
+        (
+            "11-full-window",
+            "7",
+            "  * worked of the desk: mark 0, window: SN 2 worked too\n",
+        ),
+        (
+            "09-catching-up",
+            "25",
+            "catching up: 1→2 #1 and 1→2 #2 in its logs have no TN",
+        ),
+    ] {
+        let (_, out, _) = run(&["state", frame, &file(name)]);
+        assert!(out.contains(want), "nowhere: {want}{out}");
+    }
+}
+
+#[test]
+fn next_says_what_is_accepted_and_what_is_blocked() {
+    let (status, out, error) = fed(&["next", "-"], WORDS.as_bytes());
+    assert_eq!(status, 0);
+    said_nothing(&error);
+    for want in [
+        "Packets that can be delivered\n  deliver ASK 1>2 #1       110101020001  Chare 2 gives it a new ticket",
+        "Works that are blocked\n  work 1                   1201  05: Machine 1 is down.\n",
+        "  work 2                   1202  06: Chare 2 has given no TN 1.\n",
+        "  restart 1                1501  Restart: ",
+        "FF: The run would be lost, for machine 1 is down, and machine 1, the buddy, does not hold its copy.\n",
+    ] {
+        assert!(out.contains(want), "nowhere: {want}\n{out}");
+    }
+    let (_, out, _) = fed(&["next", "-"], b"1201\n");
+    assert!(out.contains("No job is set"), "{out}");
+    let (_, out, _) = run(&["next", &file("00-the-rule-books-sitting")]);
+    assert!(out.contains("The run was lost at frame 13"), "{out}");
+}
+
+/// What `next` says of a frame is what the frame then gets.
+#[test]
+fn next_is_true() {
+    use reference::generator;
+    for seed in 0..40 {
+        let mut list = generator::list(seed, 120);
+        if !list.ends_with(b"\n") {
+            list.push(b'\n');
+        }
+        let (_, out, _) = fed(&["next", "-"], &list);
+        for line in out.lines().filter(|line| line.starts_with("  ")) {
+            let words: Vec<&str> = line[26..].split_whitespace().collect();
+            // Short words leave two blanks before the digits, long ones one.
+            let digits = words
+                .iter()
+                .find(|word| word.bytes().all(|b| b.is_ascii_hexdigit()));
+            let digits = digits.expect("a frame");
+            let at = words.iter().position(|word| word == digits).expect("there");
+            let whole = [&list[..], digits.as_bytes(), b"\n"].concat();
+            let answers = lines(&whole);
+            let answer = answers.lines().last().expect("a line");
+            let said = words[at + 1]
+                .strip_suffix(':')
+                .filter(|word| word.len() == 2);
+            assert_eq!(answer, said.unwrap_or("00"), "seed {seed}: {line}");
+        }
+    }
+}
+
+#[test]
+fn page_is_written() {
+    let out = fresh("page").join("out.html");
+    let (status, said, error) = run(&["page", &file(NAME), out.to_str().expect("a name")]);
+    assert_eq!((status, said.as_str(), error.as_str()), (0, "", ""));
+    assert!(fs::read_to_string(out)
+        .expect("a page")
+        .starts_with("<!DOCTYPE html>"));
+}
+
+/// Every run with `--quick` says that its lines are not the proved engine's.
+#[test]
+fn quick_says_so() {
+    let folder = fresh("quick");
+    let (svg, html) = (folder.join("q.svg"), folder.join("q.html"));
+    let (list_file, svg, html) = (
+        file(NAME),
+        svg.display().to_string(),
+        html.display().to_string(),
+    );
+    for args in [
+        &["play", &list_file][..],
+        &["explain", &list_file],
+        &["picture", &list_file, &svg],
+        &["page", &list_file, &html],
+        &["state", "3", &list_file],
+        &["next", &list_file],
+    ] {
+        let quick: Vec<&str> = args.iter().copied().chain(["--quick"]).collect();
+        let (status, out, error) = run(&quick);
+        assert_eq!(status, 0, "{args:?}");
+        assert_eq!(
+            error,
+            "satuphir: --quick: the lines are the second implementation's, not the proved engine's\n"
+        );
+        assert_eq!(out, run(args).1, "{args:?}");
+        // What is written says so too; the run without `--quick` has just written over it.
+        run(&quick);
+    }
+    for made in [svg, html] {
+        let made = fs::read_to_string(made).expect("a file");
+        assert!(made.contains("05-crash-with-cover (not the proved engine's lines)"));
     }
 }

@@ -56,3 +56,17 @@ fn lines_that_are_missing_cut_or_too_many() {
     assert_eq!(first_difference(&more), (4, "00".to_string(), none.clone()));
     assert_eq!(first_difference(b""), (1, none, "00".to_string()));
 }
+
+/// Whatever is made of a list says where the lines differ.
+#[test]
+fn states_and_pages_tell_of_a_difference() {
+    let wrong = b"00\n09\n00000000000001\n";
+    match explained::state::after(LIST, wrong, 1) {
+        Err(explained::state::Wrong::Difference(difference)) => assert_eq!(difference.number, 2),
+        _ => panic!("no difference"),
+    }
+    let difference = explained::ahead::next(LIST, wrong).expect_err("a difference");
+    assert_eq!(difference.number, 2);
+    let page = explained::page::page("a list", "wrong", LIST, wrong).expect("a page");
+    assert_eq!(page.difference.map(|difference| difference.number), Some(2));
+}

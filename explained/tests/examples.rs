@@ -2,8 +2,7 @@
 
 mod common;
 
-use common::{explained, folder, list, names};
-use explained::picture::draw;
+use common::{drawn, explained, folder, list, names};
 use reference::reader::Sitting;
 use std::fs;
 
@@ -15,6 +14,15 @@ fn stored(name: &str, end: &str) -> String {
 #[test]
 fn there_are_examples() {
     assert!(names().len() >= 12);
+}
+
+/// The stored lines come from the second implementation; the proved engine gives the same.
+#[test]
+fn lines_of_the_engine() {
+    for name in names() {
+        let lines = explained::engine::lines(&list(&name));
+        assert_eq!(stored(&name, "out").as_bytes(), lines, "{name}");
+    }
 }
 
 #[test]
@@ -39,7 +47,7 @@ fn texts() {
 #[test]
 fn pictures() {
     for name in names() {
-        let picture = draw(&name, &explained(&list(&name)).story);
+        let picture = drawn(&name, &explained(&list(&name)).story);
         assert!(
             stored(&name, "svg") == picture,
             "{name}.svg is not up to date"

@@ -1,9 +1,9 @@
-//! Nothing in a picture lies over something else.
+//! What a picture shows, and that nothing in it lies over something else.
 
 mod common;
 
-use common::{explained, list, names};
-use explained::picture::draw;
+use common::{drawn, explained, list, names};
+use explained::picture::{Drawing, MOST_ROWS};
 use reference::generator;
 use std::fmt;
 
@@ -115,10 +115,14 @@ fn passes(way: &[(f64, f64)], area: &Area) -> bool {
     })
 }
 
+/// The shapes of a kind, one a line.
+fn shapes<'a>(picture: &'a str, tag: &'static str) -> impl Iterator<Item = &'a str> {
+    picture.lines().filter(move |line| line.starts_with(tag))
+}
+
 fn check(name: &str, picture: &str) {
-    let shapes = |tag: &'static str| picture.lines().filter(move |line| line.starts_with(tag));
-    let texts: Vec<Area> = shapes("<text").map(text_area).collect();
-    let pills: Vec<Area> = shapes("<rect x").filter_map(pill_area).collect();
+    let texts: Vec<Area> = shapes(picture, "<text").map(text_area).collect();
+    let pills: Vec<Area> = shapes(picture, "<rect x").filter_map(pill_area).collect();
     for (at, text) in texts.iter().enumerate() {
         for other in &texts[at + 1..] {
             assert!(!text.meets(other), "{name}: {text} meets {other}");
@@ -135,9 +139,54 @@ fn check(name: &str, picture: &str) {
             assert!(!pill.meets(other), "{name}: {pill} meets {other}");
         }
     }
-    for way in shapes("<path").map(way) {
+    let ways: Vec<Vec<(f64, f64)>> = shapes(picture, "<path").map(way).collect();
+    for way in &ways {
         for pill in &pills {
-            assert!(!passes(&way, pill), "{name}: {way:?} meets {pill}");
+            assert!(!passes(way, pill), "{name}: {way:?} meets {pill}");
+        }
+    }
+    // A label stands over its own arrow, which is not crossed by it, and no other arrow crosses it.
+    for label in shapes(picture, "<text").filter(|t| attribute(t, "class") == "halo") {
+        let area = text_area(label);
+        for way in &ways {
+            assert!(!passes(way, &area), "{name}: {way:?} meets {area}");
+        }
+        let right = attribute(label, "text-anchor") == "start";
+        let tail = number(label, "y") + 6.0;
+        let own = |way: &&Vec<(f64, f64)>| {
+            way[0].1 == tail && (way[0].0 - number(label, "x")).abs() < 12.0
+        };
+        let own = ways
+            .iter()
+            .find(own)
+            .unwrap_or_else(|| panic!("{name}: {area} has no arrow"));
+        assert_eq!(
+            own[1].0 > own[0].0,
+            right,
+            "{name}: {area} is not on its arrow's side"
+        );
+    }
+    check_bends(name, &ways);
+}
+
+/// Where packets go down, none lies on another.
+fn check_bends(name: &str, ways: &[Vec<(f64, f64)>]) {
+    let mut downs: Vec<(f64, f64, f64)> = Vec::new();
+    for way in ways {
+        for pair in way.windows(2) {
+            let [(x1, y1), (x2, y2)] = [pair[0], pair[1]];
+            if x1 == x2 && (y1 - y2).abs() > 1.0 {
+                downs.push((x1, y1.min(y2), y1.max(y2)));
+            }
+        }
+    }
+    for (at, one) in downs.iter().enumerate() {
+        for two in downs[at + 1..].iter().filter(|two| two.0 == one.0) {
+            // Pieces of one way touch at their ends.
+            assert!(
+                one.2 <= two.1 || two.2 <= one.1,
+                "{name}: {one:?} lies on {two:?}"
+            );
         }
     }
 }
@@ -145,7 +194,7 @@ fn check(name: &str, picture: &str) {
 #[test]
 fn examples() {
     for name in names() {
-        check(&name, &draw(&name, &explained(&list(&name)).story));
+        check(&name, &drawn(&name, &explained(&list(&name)).story));
     }
 }
 
@@ -153,21 +202,135 @@ fn examples() {
 fn random_lists() {
     for seed in 0..80 {
         let story = explained(&generator::list(seed, 40)).story;
-        check(&format!("seed {seed}"), &draw("a random list", &story));
+        check(&format!("seed {seed}"), &drawn("a random list", &story));
     }
+}
+
+/// Six machines and twelve chares, over several pages.
+#[test]
+fn the_widest_jobs() {
+    let wide = (0..3000).map(|seed| (seed, generator::list(seed, 120)));
+    let wide = wide.filter(|(_, list)| list[..6].eq_ignore_ascii_case(b"01060C"));
+    let mut seen = 0;
+    for (seed, list) in wide.take(8) {
+        check(
+            &format!("seed {seed}"),
+            &drawn("a wide list", &explained(&list).story),
+        );
+        seen += 1;
+    }
+    assert_eq!(seen, 8);
 }
 
 /// One shape a line, every tag closed, nothing fetched from elsewhere.
 #[test]
 fn self_contained() {
     for seed in 0..80 {
-        let picture = draw("<a> & \"b\"", &explained(&generator::list(seed, 200)).story);
+        let picture = drawn("<a> & \"b\"", &explained(&generator::list(seed, 200)).story);
         assert_eq!(picture.matches("<svg").count(), 1);
-        assert_eq!(
-            picture.matches("<text").count(),
-            picture.matches("</text>").count()
-        );
+        for (open, close) in [("<text", "</text>"), ("<g", "</g>"), ("<title", "</title>")] {
+            assert_eq!(
+                picture.matches(open).count(),
+                picture.matches(close).count()
+            );
+        }
         assert!(!picture.contains("href") && !picture.contains("<image"));
         assert!(picture.contains("&lt;a&gt; &amp; &quot;b&quot;"));
     }
+}
+
+fn example(name: &str) -> String {
+    drawn(name, &explained(&list(name)).story)
+}
+
+fn has(picture: &str, text: &str) {
+    let text = format!(">{text}<");
+    assert!(picture.contains(&text), "nowhere: {text}");
+}
+
+#[test]
+fn a_lost_run_says_why() {
+    let picture = example("06-crash-without-cover");
+    has(&picture, "crash of machine 1, no cover: machine 2, the");
+    has(&picture, "buddy, does not hold its copy");
+}
+
+#[test]
+fn copies_and_notes_stand_on_the_buddys_lane() {
+    let picture = example("04-checkpoint");
+    for text in ["copy of 1", "notes for 1: 1", "new copy of 1, 1 note out"] {
+        has(&picture, text);
+    }
+    let picture = example("06-crash-without-cover");
+    for text in ["copy of 1", "copy of 1 lost", "copy of 2 taken back"] {
+        has(&picture, text);
+    }
+}
+
+#[test]
+fn a_local_message_is_seen() {
+    has(&example("03-local-message"), "1→2 #1 here: TN 1");
+}
+
+#[test]
+fn a_packet_is_explained() {
+    let picture = example("01-plain-delivery");
+    let title =
+        "ASK 0→1 #1: the desk asks chare 1 for a ticket for 0→1 #1, from the desk to machine 1; \
+                 sent at frame 2, delivered at frame 4";
+    has(&picture, title);
+    let packets = shapes(&picture, "<path").count();
+    // The legend has some too, which need no words.
+    assert!(picture.matches("<g class=\"packet\"><title>").count() >= 2 * (packets - 7));
+}
+
+/// What repeats is folded: 272 frames were 11,902 pixels high.
+#[test]
+fn repeated_stretches_are_folded() {
+    let picture = example("11-full-window");
+    assert!(number(&picture, "height") < 3000.0);
+    has(&picture, "folded: 13 more rounds of 5 frames like");
+    has(&picture, "8-72");
+    let picture = example("14-full-wire");
+    assert!(number(&picture, "height") < 3000.0);
+    has(&picture, "folded: 14 more frames like the one above;");
+}
+
+/// Each page has the names of the lanes, and the size of a sheet.
+#[test]
+fn pages_have_heads() {
+    let story = explained(&list("11-full-window")).story;
+    let drawing = Drawing::new("a list", &story).expect("a picture");
+    let pages = drawing.pages();
+    assert_eq!(pages.len(), 2);
+    assert_eq!(drawing.whole().matches(">what happened<").count(), 2);
+    for (at, page) in pages.iter().enumerate() {
+        assert!(page.contains("width=\"210mm\" height=\"297mm\""));
+        let title = format!("(page {} of 2)", at + 1);
+        let head = page
+            .lines()
+            .find(|line| line.contains(&title))
+            .expect("a title");
+        let view = attribute(page, "viewBox").split(' ');
+        let view: Vec<f64> = view.map(|n| n.parse().expect("a number")).collect();
+        let y = number(head, "y");
+        assert!(
+            view[1] < y && y < view[1] + view[3],
+            "{title} is on another page"
+        );
+    }
+}
+
+#[test]
+fn a_list_too_long_to_draw_is_named_so() {
+    let story = explained(&generator::list(107, 5000)).story;
+    let error = Drawing::new("a list", &story).err().expect("too long");
+    assert!(
+        error.starts_with("too long to draw: 5000 frames, "),
+        "{error}"
+    );
+    assert!(
+        error.ends_with(&format!("a picture has at most {MOST_ROWS}")),
+        "{error}"
+    );
 }

@@ -100,13 +100,71 @@ fn a_note_that_is_there_already() {
     );
 }
 
+/// The refusal says which number it is: an SN of the desk or of a chare, a TN that is asked for or taken at once.
 #[test]
 fn a_number_that_passes_sixty_thousand() {
-    let mut state = played(APART, &[]);
-    state.world.desk.sent[0] = 60_000;
-    let text = said(&state, "1001000300", Answer::Refused(Question::Number));
-    assert!(text.contains("question 7"), "{text}");
-    assert!(text.contains("a number would pass 60000"), "{text}");
+    let mut sending = played(APART, &[]);
+    sending.world.desk.sent[0] = 60_000;
+    let mut asked = played(APART, &WORKED[..1]);
+    asked.world.chares[0].height = 60_000;
+    let mut working = played(APART, &WORKED[..4]);
+    working.world.chares[0].sent[1] = 60_000;
+    let mut taking = played(TOGETHER, &WORKED[..4]);
+    taking.world.chares[1].height = 60_000;
+    for (state, frame, want) in [
+        (&sending, "1001000300", "the SN of 0→1 would be 60001"),
+        (
+            &asked,
+            "110100010001",
+            "the next TN of chare 1 would be 60001",
+        ),
+        (&working, "1201", "the SN of 1→2 would be 60001"),
+        (&taking, "1201", "the next TN of chare 2 would be 60001"),
+    ] {
+        let text = said(state, frame, Answer::Refused(Question::Number));
+        assert!(text.contains("question 7"), "{text}");
+        assert!(text.contains(want), "{text}");
+    }
+}
+
+/// A work that is refused for the window names message and mark.
+#[test]
+fn a_work_outside_the_window() {
+    let mut state = played(TOGETHER, &WORKED[..4]);
+    state.world.chares[0].sent[1] = 66;
+    state.world.chares[1].seen[1].mark = 2;
+    let text = said(&state, "1201", Answer::Refused(Question::Window));
+    assert!(
+        text.contains("it sends 1→2 #67, and SN 67 is above mark 2 + 64"),
+        "{text}"
+    );
+}
+
+/// A number that stands in two bases says so.
+#[test]
+fn a_value_in_both_bases() {
+    let state = played(
+        APART,
+        &[
+            &WORKED[..],
+            &["110101020001", "110201020001", "110301020001"],
+        ]
+        .concat(),
+    );
+    let text = said(&state, "1202", Answer::Accepted);
+    assert!(text.contains("value 35 (hex 0023), hops 0"), "{text}");
+    assert!(
+        text.contains("plus 35 (hex 0023), gives 00000063"),
+        "{text}"
+    );
+    let mut high = state.clone();
+    high.world.chares[0].height = 12;
+    let shown = Answer::Shown {
+        height: 12,
+        state: 0x23,
+    };
+    let text = said(&high, "1601", shown);
+    assert!(text.contains("up to TN 12 (hex 000C)"), "{text}");
 }
 
 #[test]
@@ -173,4 +231,26 @@ fn every_reason_for_a_crash_without_cover() {
         let text = said(state, crash, Answer::Lost);
         assert!(text.contains(&format!("without cover: {want}.")), "{text}");
     }
+}
+
+/// In the rule book's own sitting machine 1 is catching up and has lost machine 2's copy.
+#[test]
+fn all_reasons_for_a_crash_without_cover_at_once() {
+    let again = ["1401", "1501", "110300010001", "1201"];
+    let state = played(APART, &[&WORKED[..], &again].concat());
+    let text = said(&state, "1402", Answer::Lost);
+    let want =
+        "without cover: machine 1 is catching up; machine 1, the buddy, does not hold its copy.";
+    assert!(text.contains(want), "{text}");
+}
+
+/// A machine that holds notes but no copy, having crashed before, loses the notes.
+#[test]
+fn notes_without_a_copy_that_a_crash_takes() {
+    let job = "010302020301010200010000";
+    let frames = [&["1402", "1502"][..], &WORKED, &["110401020001"]].concat();
+    let state = played(job, &frames);
+    let text = said(&state, "1402", Answer::Accepted);
+    let want = "Gone too: 1 note that it kept for machine 1, of which it held no copy.";
+    assert!(text.contains(want), "{text}");
 }

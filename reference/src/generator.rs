@@ -5,7 +5,7 @@ use crate::encode::{bytes, put_digits};
 use crate::frame::{parse, Frame};
 use crate::job::{ix, Job};
 use crate::junk::{bad_job, blind_frame, put_garbled};
-use crate::layout::random_job;
+use crate::layout::sized_job;
 use crate::limits::MAX_HOPS;
 use crate::load::Load;
 use crate::mood::{Act, Mood, Theme, ACTS};
@@ -22,8 +22,22 @@ enum Letters {
     Mixed,
 }
 
+/// What a list is held to, besides its seed.
+#[derive(Clone, Debug, Default)]
+pub struct Bounds {
+    pub machines: Option<usize>,
+    pub chares: Option<usize>,
+    /// No garbled frame and none out of range, in capitals.
+    pub clean: bool,
+    /// Many crashes.
+    pub crashing: bool,
+    /// The run may be lost in the last third, or never; not said, in every second list.
+    pub may_be_lost: Option<bool>,
+}
+
 pub struct Generator {
     pub(crate) rng: Rng,
+    bounds: Bounds,
     theme: Theme,
     pub(crate) mood: Mood,
     letters: Letters,
@@ -46,18 +60,30 @@ pub struct Generator {
 
 impl Generator {
     pub fn new(seed: u64, frames: usize) -> Generator {
+        Generator::within(Bounds::default(), seed, frames)
+    }
+
+    pub fn within(bounds: Bounds, seed: u64, frames: usize) -> Generator {
         let mut rng = Rng::new(seed);
-        let theme = *rng.pick(&Theme::ALL);
+        let theme = match bounds.crashing {
+            true => Theme::Crashing,
+            false => *rng.pick(&Theme::ALL),
+        };
         let mood = Mood::random(&mut rng, theme);
         // Every second list may be lost, in its last third, so that lists go deep first.
-        let doom = if rng.one_in(2) {
+        let may_be_lost = bounds.may_be_lost.unwrap_or_else(|| rng.one_in(2));
+        let doom = if may_be_lost {
             rng.below(frames / 3 + 1)
         } else {
             0
         };
         Generator {
             theme,
-            letters: *rng.pick(&[Letters::Capital, Letters::Small, Letters::Mixed]),
+            letters: match bounds.clean {
+                true => Letters::Capital,
+                false => *rng.pick(&[Letters::Capital, Letters::Small, Letters::Mixed]),
+            },
+            bounds,
             left: frames,
             mood_left: mood.lasts,
             doom,
@@ -150,13 +176,20 @@ impl Generator {
     }
 
     fn put_before_job(&mut self, out: &mut Vec<u8>) {
-        match self.rng.below(12) {
+        let choice = match self.bounds.clean {
+            true => 3,
+            false => self.rng.below(12),
+        };
+        match choice {
             0 => put_garbled(&mut self.rng, out),
             1 => put_digits(out, &bad_job(&mut self.rng)),
             2 => put_digits(out, &bytes(&blind_frame(&mut self.rng, 6, 12))),
             _ => {
                 let layout = self.theme.layout(&mut self.rng);
-                let job = Frame::Job(random_job(&mut self.rng, layout));
+                let Bounds {
+                    machines, chares, ..
+                } = self.bounds;
+                let job = Frame::Job(sized_job(&mut self.rng, layout, machines, chares));
                 put_digits(out, &bytes(&job));
             }
         }
@@ -214,6 +247,7 @@ impl Generator {
         let mut weights = self.mood.acts;
         for (act, weight) in ACTS.iter().zip(&mut weights) {
             match act {
+                Act::Blind | Act::Junk if self.bounds.clean => *weight = 0,
                 Act::Restart if !down => *weight = 0,
                 Act::Crash if !state.world.all_well() => *weight = 0,
                 Act::Crash if self.mood.desk_only => *weight = 8 * u32::from(wire > 120),
@@ -259,7 +293,15 @@ impl Generator {
 
 /// A whole list. Every fourth ends without a newline.
 pub fn list(seed: u64, frames: usize) -> Vec<u8> {
-    let mut generator = Generator::new(seed, frames);
+    let mut out = whole(Generator::new(seed, frames));
+    if seed % 4 == 3 {
+        out.pop();
+    }
+    out
+}
+
+/// All that a generator gives, each line with its newline.
+pub fn whole(mut generator: Generator) -> Vec<u8> {
     let mut state = State::new();
     let mut out = Vec::new();
     let mut start = 0;
@@ -267,9 +309,6 @@ pub fn list(seed: u64, frames: usize) -> Vec<u8> {
         let answer = state.line(&out[start..out.len() - 1]);
         generator.heard(answer);
         start = out.len();
-    }
-    if seed % 4 == 3 {
-        out.pop();
     }
     out
 }

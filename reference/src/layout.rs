@@ -28,12 +28,23 @@ enum Ports {
 }
 
 pub fn random_job(rng: &mut Rng, layout: Layout) -> Draft {
-    let (machines, chares) = match layout {
+    sized_job(rng, layout, None, None)
+}
+
+/// A random job with so many machines and chares, where they are given.
+pub fn sized_job(
+    rng: &mut Rng,
+    layout: Layout,
+    machines: Option<usize>,
+    chares: Option<usize>,
+) -> Draft {
+    let (any_machines, any_chares) = match layout {
         Layout::Any => (rng.between(2, 6), rng.between(1, 12)),
         Layout::Narrow => (rng.between(2, 3), rng.between(1, 4)),
         Layout::Wide => (rng.between(3, 6), rng.between(10, 12)),
         Layout::Crowded => (rng.between(2, 4), rng.between(8, 12)),
     };
+    let (machines, chares) = (machines.unwrap_or(any_machines), chares.unwrap_or(any_chares));
     let mut draft = Draft {
         machines: machines as u8,
         chares: chares as u8,

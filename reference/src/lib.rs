@@ -22,6 +22,7 @@ pub mod world;
 // Lists of frames to play.
 pub mod choice;
 pub mod encode;
+pub mod exam;
 pub mod generator;
 pub mod junk;
 pub mod layout;

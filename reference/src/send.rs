@@ -6,13 +6,14 @@ use crate::job::{ix, Job};
 use crate::limits::{DESK, LOG_SIZE, MAX_HOPS, MAX_NUMBER, MAX_PORTS, TABLE_SIZE, WIRE_SIZE};
 use crate::list::List;
 use crate::message::{Body, Logged};
+use crate::seen::Seen;
 use crate::table::Entry;
 use crate::wire::{Content, Kind, Name};
 use crate::world::World;
 
 /// How a message gets its ticket.
 #[derive(Clone, Copy, Debug, Default, PartialEq)]
-enum Route {
+pub enum Route {
     /// From another machine: it must ask.
     #[default]
     Asks,
@@ -22,14 +23,23 @@ enum Route {
     Takes(u16),
 }
 
+/// A send that a work is about to make.
 #[derive(Clone, Copy, Debug, Default)]
-struct Planned {
-    receiver: u8,
-    sn: u16,
-    route: Route,
+pub struct Planned {
+    pub receiver: u8,
+    pub sn: u16,
+    pub route: Route,
 }
 
-type Plan = List<Planned, MAX_PORTS>;
+pub type Plan = List<Planned, MAX_PORTS>;
+
+/// A message that is worked, its sends not yet made: what was before, and what is to be sent.
+pub struct Begun {
+    sender: u8,
+    seen: Seen,
+    state: u32,
+    sent: Option<Body>,
+}
 
 impl World {
     pub fn inject(&mut self, chare: u8, body: Body) -> Result<(), Question> {
@@ -60,6 +70,27 @@ impl World {
         if !self.is_up(job.machine_of(chare)) {
             return Err(Question::Up);
         }
+        let begun = self.begin_work(chare)?;
+        let Some(sent) = begun.sent else {
+            return Ok(());
+        };
+        // The sends are judged with the message worked; if they cannot be made, it is not.
+        let plan = self.plan(job, chare);
+        if let Err(question) = self.judge(chare, &plan) {
+            let me = &mut self.chares[ix(chare)];
+            me.seen[begun.sender as usize] = begun.seen;
+            me.state = begun.state;
+            me.height -= 1;
+            return Err(question);
+        }
+        for planned in plan.iter() {
+            self.send(chare, planned, sent);
+        }
+        Ok(())
+    }
+
+    /// Works the next message, but for its sends. Its machine is up.
+    pub fn begin_work(&mut self, chare: u8) -> Result<Begun, Question> {
         let me = &mut self.chares[ix(chare)];
         let next = me.height + 1;
         let (sender, sn, body) = match me.table.find_tn(next) {
@@ -77,30 +108,19 @@ impl World {
         seen.add(sn);
         me.height = next;
         me.state = worked_state(me.state, body.value);
-        if body.hops == 0 {
-            return Ok(());
-        }
-        // The sends are judged with the message worked; if they cannot be made, it is not.
-        let sent = Body {
-            value: me.state as u16,
-            hops: body.hops - 1,
-        };
-        let plan = self.plan(job, chare);
-        if let Err(question) = self.judge(chare, &plan) {
-            let me = &mut self.chares[ix(chare)];
-            me.seen[sender as usize] = old_seen;
-            me.state = old_state;
-            me.height = next - 1;
-            return Err(question);
-        }
-        for planned in plan.iter() {
-            self.send(chare, planned, sent);
-        }
-        Ok(())
+        Ok(Begun {
+            sender,
+            seen: old_seen,
+            state: old_state,
+            sent: (body.hops > 0).then(|| Body {
+                value: me.state as u16,
+                hops: body.hops - 1,
+            }),
+        })
     }
 
     /// The sends of a chare to its ports, the second as if the first were made.
-    fn plan(&self, job: &Job, chare: u8) -> Plan {
+    pub fn plan(&self, job: &Job, chare: u8) -> Plan {
         let mut plan = Plan::new();
         let machine = job.machine_of(chare);
         for receiver in job.ports_of(chare) {

@@ -54,12 +54,34 @@ fn bytes_of_any_kind() {
     same("noise", &noise.take(200_000).collect::<Vec<u8>>());
 }
 
+/// No line is longer than this, newline included.
+const LINE_SPACE: usize = 15;
+
+/// Does a buffer hold the answers to all lines for which it surely had room, and after them what was there?
+fn holds_what_fits(out: &[u8], whole: &[u8]) -> bool {
+    let written = out.iter().zip(whole).take_while(|(o, w)| o == w).count();
+    let whole_lines = written == 0 || out[written - 1] == b'\n';
+    whole_lines && written + LINE_SPACE > out.len() && out[written..].iter().all(|&b| b == b'.')
+}
+
 #[test]
 fn a_buffer_that_is_too_small() {
     let input = list(1, 50);
     let whole = answer_all(&input);
-    let mut out = vec![b'.'; whole.len() / 2];
-    assert_eq!(write_transcript(&input, &mut out), None);
-    let written = out.iter().take_while(|&&b| b != b'.').count();
-    assert_eq!(out[..written], whole[..written]);
+    for len in [whole.len() / 2, whole.len() - 1, LINE_SPACE, 1, 0] {
+        let mut out = vec![b'.'; len];
+        assert_eq!(write_transcript(&input, &mut out), None);
+        assert!(holds_what_fits(&out, &whole), "{len}");
+    }
+}
+
+/// That test can fail: on nothing written, on half of it, and on a line that is cut.
+#[test]
+fn a_short_buffer_is_looked_at() {
+    let whole = b"00\n00\n00\n00\n00\n00\n00\n00\n00\n00\n00\n00\n";
+    let buffer = |written: usize| [&whole[..written], &vec![b'.'; 30 - written]].concat();
+    assert!(!holds_what_fits(&buffer(0), whole));
+    assert!(!holds_what_fits(&buffer(15), whole));
+    assert!(!holds_what_fits(&buffer(28), whole));
+    assert!(holds_what_fits(&buffer(18), whole));
 }

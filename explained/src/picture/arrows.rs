@@ -1,9 +1,9 @@
 //! The packets as arrows, with their labels.
 
-use super::layout::Layout;
-use super::record::{End, Story};
-use super::routes::{passes, side};
-use super::svg::{text_width, Anchor, Area, Point, Svg};
+use super::layout::FROM_LANE;
+use super::record::{End, Flight, Story};
+use super::routes::side;
+use super::svg::{Anchor, Point, Svg};
 use reference::wire::Kind;
 
 pub fn colour(kind: Kind) -> &'static str {
@@ -18,7 +18,9 @@ pub fn colour(kind: Kind) -> &'static str {
 
 pub fn put_arrows(svg: &mut Svg, story: &Story, routes: &[Vec<Point>]) {
     for (flight, route) in story.flights.iter().zip(routes) {
+        svg.open_packet(&explained(story, flight));
         put_arrow(svg, route, colour(flight.kind), flight.end);
+        svg.close_packet();
     }
 }
 
@@ -96,45 +98,35 @@ fn arrowhead(last: Point, head: Point) -> [Point; 3] {
     [head, left, right]
 }
 
-/// Each label stands beside its tail: over its own arrow, or on the other side of the lane if
-/// fewer arrows pass there.
-pub fn put_labels(svg: &mut Svg, story: &Story, layout: &Layout, routes: &[Vec<Point>]) {
-    for (at, flight) in story.flights.iter().enumerate() {
-        let width = text_width(&flight.label);
-        let tail = routes[at][0];
-        let crossings = |side: f64| {
-            let area = label_area(tail, side, width);
-            let others = routes.iter().enumerate().filter(|&(other, _)| other != at);
-            let crossed = others.filter(|(_, route)| passes(route, area)).count();
-            let outside =
-                area.x < layout.lanes_from() || area.x + area.width > layout.headlines_at();
-            crossed + if outside { routes.len() } else { 0 }
-        };
-        let near = side(flight);
-        let chosen = if crossings(-near) < crossings(near) {
-            -near
-        } else {
-            near
-        };
-        let anchor = if chosen > 0.0 {
+/// Each label stands over the beginning of its arrow, where no other passes.
+pub fn put_labels(svg: &mut Svg, story: &Story, routes: &[Vec<Point>]) {
+    for (flight, route) in story.flights.iter().zip(routes) {
+        let (tail, side) = (route[0], side(flight));
+        let anchor = if side > 0.0 {
             Anchor::Start
         } else {
             Anchor::End
         };
-        let place = Point::new(tail.x + chosen * FROM_LANE, tail.y - 6.0);
+        let place = Point::new(tail.x + side * FROM_LANE, tail.y - 6.0);
         let more = format!("class=\"halo\" style=\"fill:{}\"", colour(flight.kind));
+        svg.open_packet(&explained(story, flight));
         svg.text(place, anchor, &more, &flight.label);
+        svg.close_packet();
     }
 }
 
-const FROM_LANE: f64 = 9.0;
-
-fn label_area(tail: Point, side: f64, width: f64) -> Area {
-    let near = tail.x + side * FROM_LANE;
-    Area {
-        x: if side > 0.0 { near } else { near - width },
-        y: tail.y - 16.0,
-        width,
-        height: 13.0,
-    }
+/// The packet in words: what it says, when it went out and what became of it.
+fn explained(story: &Story, flight: &Flight) -> String {
+    let number = |row: usize| story.rows[row].numbers.0;
+    let end = match flight.end {
+        End::OnWire => "not delivered by the end".to_string(),
+        End::Delivered(row) => format!("delivered at frame {}", number(row)),
+        End::Lost(row) => format!("taken off the wire at frame {}", number(row)),
+    };
+    format!(
+        "{}: {}; sent at frame {}, {end}",
+        flight.label,
+        flight.meaning,
+        number(flight.sent)
+    )
 }

@@ -1,6 +1,6 @@
 //! The columns at the margins: frame number, frame, answer line; what happened, in few words.
 
-use super::layout::{Layout, FRAME_AT, LINE_AT, NUMBER_AT};
+use super::layout::{headline, Layout, FRAME_AT, HEADLINE_STEP, LINE_AT, NUMBER_AT};
 use super::record::{Row, Story};
 use super::svg::{Anchor, Area, Point, Svg};
 use reference::answer::Answer;
@@ -23,27 +23,27 @@ pub fn put_grounds(svg: &mut Svg, story: &Story, layout: &Layout) {
 pub fn put_columns(svg: &mut Svg, story: &Story, layout: &Layout) {
     for (at, row) in story.rows.iter().enumerate() {
         let y = layout.moment(at) + 4.0;
-        let number = row.number.to_string();
-        svg.text(
-            Point::new(NUMBER_AT, y),
-            Anchor::End,
-            "class=\"quiet\"",
-            &number,
-        );
+        if !row.is_folded() {
+            let number = row.numbers.0.to_string();
+            let place = Point::new(NUMBER_AT, y);
+            svg.text(place, Anchor::End, "class=\"quiet\"", &number);
+            put_line(svg, row, y);
+        }
         svg.text(
             Point::new(FRAME_AT, y),
             Anchor::Start,
             "class=\"code\"",
             &row.given,
         );
-        put_line(svg, row, y);
-        let more = if row.is_refused() {
-            "style=\"fill:#b3261e\""
-        } else {
-            ""
+        let more = match row.answer {
+            Answer::Refused(_) | Answer::Lost => "style=\"fill:#b3261e\"",
+            _ if row.is_folded() => "class=\"quiet\"",
+            _ => "",
         };
-        let place = Point::new(layout.headlines_at(), y);
-        svg.text(place, Anchor::Start, more, &row.headline);
+        for (step, line) in headline(row).iter().enumerate() {
+            let place = Point::new(layout.headlines_at(), y + HEADLINE_STEP * step as f64);
+            svg.text(place, Anchor::Start, more, line);
+        }
     }
 }
 

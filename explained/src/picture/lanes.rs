@@ -1,7 +1,7 @@
 //! The lanes: up, down, catching up, and the end of a run that is lost.
 
 use super::layout::{Layout, BAND};
-use super::record::{Row, Story};
+use super::record::Story;
 use super::svg::{Anchor, Area, Point, Svg};
 use reference::answer::Answer;
 use reference::job::{ix, Job};
@@ -69,15 +69,38 @@ pub fn put_lanes(svg: &mut Svg, story: &Story, layout: &Layout) {
                 (look, from) = (next, y);
             }
         }
-        put_band(svg, layout.lane(lane), from, layout.bottom, look);
+        put_band(svg, layout.lane(lane), from, layout.bottom(), look);
     }
-    let lost = |row: &Row| row.answer == Answer::Lost;
-    if let Some(at) = story.rows.iter().position(lost) {
+    for (at, row) in story.rows.iter().enumerate() {
         let y = layout.moment(at);
         let last = layout.lanes().last().unwrap_or(0);
         let from = Point::new(layout.lane(0) - 40.0, y);
         let to = Point::new(layout.lane(last) + 40.0, y);
-        svg.line(from, to, "stroke=\"#b3261e\" stroke-width=\"2\"");
+        if row.answer == Answer::Lost {
+            svg.line(from, to, "stroke=\"#b3261e\" stroke-width=\"2\"");
+        }
+        if row.is_folded() {
+            put_fold(svg, layout, at);
+        }
+    }
+}
+
+/// A folded stretch: the lanes are broken.
+fn put_fold(svg: &mut Svg, layout: &Layout, at: usize) {
+    let area = layout.row(at);
+    for lane in layout.lanes() {
+        let x = layout.lane(lane);
+        let gap = Area {
+            x: x - 2.0 * BAND,
+            y: area.y + 8.0,
+            width: 4.0 * BAND,
+            height: area.height - 16.0,
+        };
+        svg.rect(gap, 0.0, "fill=\"#fff\"");
+        for y in [area.y + 8.0, area.y + area.height - 8.0] {
+            let (from, to) = (Point::new(x - 9.0, y + 3.0), Point::new(x + 9.0, y - 3.0));
+            svg.line(from, to, "stroke=\"#666\" stroke-width=\"1.6\"");
+        }
     }
 }
 

@@ -1,7 +1,12 @@
-//! Where rows and lanes stand.
+//! Where rows, lanes and pages stand.
 
+use super::lanes::HEADS;
+use super::marked::Mark;
 use super::record::{Row, Story};
+use super::routes::side;
 use super::svg::{text_width, Area};
+use super::tracks::{gutter, Tracks};
+use crate::lines::wrapped;
 
 /// The height of one line of text in a row.
 pub const SLOT: f64 = 20.0;
@@ -15,93 +20,157 @@ pub const FRAME_AT: f64 = 48.0;
 pub const LINE_AT: f64 = 162.0;
 const LANES_FROM: f64 = 276.0;
 
-/// Space for a remark left of the desk's lane, and for a remark or a label right of the last.
-const BEFORE_LANES: f64 = 115.0;
-const AFTER_LANES: f64 = 152.0;
-/// Between two lanes runs a channel without marks, in which arrows go down.
-const CHANNEL: f64 = 84.0;
-
-/// A usual label ends before the channel.
-const LEAST_REACH: f64 = 92.0;
+/// Each side of a lane has room for half its name.
+const LEAST_SIDE: f64 = 66.0;
+/// From a lane to a text beside it.
+pub const FROM_LANE: f64 = 9.0;
+/// Between two tracks, if there is room for all.
+const TRACK: f64 = 14.0;
+const WIDEST_GUTTER: f64 = 240.0;
 
 /// Half the width of a lane's band.
 pub const BAND: f64 = 5.0;
 
+/// The words at the margin are broken at so many characters.
+const HEADLINE: usize = 44;
+pub const HEADLINE_STEP: f64 = 15.0;
+
+const LEAST_WIDTH: f64 = 900.0;
+/// A sheet of A4, upright unless the picture is wider than this.
+const SHORT: f64 = 210.0;
+const LONG: f64 = 297.0;
+const UPRIGHT: f64 = 1600.0;
+const FOOT: f64 = 16.0;
+
 pub struct Layout {
-    /// The top of each row, and the bottom of the last.
-    tops: Vec<f64>,
-    /// How far a lane's marks reach to either side; the channel begins there.
-    reach: f64,
-    lanes: u8,
+    /// Top and height of each row.
+    rows: Vec<(f64, f64)>,
+    /// The middle of each lane, and how far its texts reach to the left and to the right.
+    lanes: Vec<f64>,
+    reaches: Vec<[f64; 2]>,
+    pub tracks: Tracks,
     pub width: f64,
-    pub bottom: f64,
+    /// The height of a page, and where each page begins and its rows do.
+    pub page: f64,
+    pub pages: Vec<(f64, f64)>,
 }
 
 impl Layout {
-    /// `top` is where the first row begins.
-    pub fn new(story: &Story, top: f64) -> Layout {
-        let mut tops = vec![top];
-        let mut bottom = top;
-        for row in &story.rows {
-            bottom += slots(row).max(LEAST_SLOTS) as f64 * SLOT + ROW_GAP;
-            tops.push(bottom);
+    /// `head` is how high the title and the legend are for a width.
+    pub fn new(story: &Story, head: impl Fn(f64) -> f64) -> Layout {
+        let count = story.job.as_ref().map_or(1, |job| job.machine_count() + 1);
+        let tracks = Tracks::new(story, count);
+        let reaches = reaches(story, count);
+        let mut lanes = vec![LANES_FROM + reaches[0][0] + FROM_LANE];
+        for lane in 1..usize::from(count) {
+            let before = lanes[lane - 1] + reaches[lane - 1][1];
+            lanes.push(before + gutter_width(tracks.count(lane - 1)) + reaches[lane][0]);
         }
-        let marks = story.rows.iter().flat_map(|row| &row.mark);
-        let pills = marks.map(|mark| pill_width(&mark.text) / 2.0 + 6.0);
         let mut layout = Layout {
-            tops,
-            reach: pills.fold(LEAST_REACH, f64::max),
-            lanes: story.job.as_ref().map_or(1, |job| job.machine_count() + 1),
+            rows: Vec::new(),
+            lanes,
+            reaches,
+            tracks,
             width: 0.0,
-            bottom,
+            page: 0.0,
+            pages: Vec::new(),
         };
-        let headlines = story.rows.iter().map(|row| text_width(&row.headline));
-        layout.width = (layout.headlines_at() + headlines.fold(220.0, f64::max)).ceil() + 12.0;
+        let headlines = story.rows.iter().flat_map(headline);
+        let headlines = headlines.map(|line| text_width(&line));
+        let width = (layout.headlines_at() + headlines.fold(220.0, f64::max)).ceil() + 12.0;
+        layout.width = width.max(LEAST_WIDTH);
+        let (wide, high) = layout.sheet();
+        layout.page = (layout.width * high / wide).ceil();
+        layout.put_rows(story, head(layout.width));
         layout
+    }
+
+    fn put_rows(&mut self, story: &Story, head: f64) {
+        let mut top = head + HEADS;
+        self.pages.push((0.0, top));
+        for row in &story.rows {
+            let lines = headline(row).len() as f64 * HEADLINE_STEP + 5.0;
+            let height = (slots(row).max(LEAST_SLOTS) as f64 * SLOT).max(lines) + ROW_GAP;
+            let (begins, first) = self.pages[self.pages.len() - 1];
+            // A row is never cut; one that is higher than a page stands first on its own.
+            if top > first && top + height + FOOT > begins + self.page {
+                let page = (begins + self.page).max(top + FOOT);
+                top = page + PAGE_TITLE + HEADS;
+                self.pages.push((page, top));
+            }
+            self.rows.push((top, height));
+            top += height;
+        }
     }
 
     /// All lanes, the desk's first.
     pub fn lanes(&self) -> impl Iterator<Item = u8> {
-        0..self.lanes
+        0..self.lanes.len() as u8
     }
 
     /// The middle of a lane.
     pub fn lane(&self, lane: u8) -> f64 {
-        LANES_FROM + BEFORE_LANES + f64::from(lane) * (2.0 * self.reach + CHANNEL)
+        self.lanes[usize::from(lane)]
     }
 
-    /// Where the channel beside a lane begins and ends; `side` is 1 for its right, -1 for its left.
-    pub fn channel(&self, lane: u8, side: f64) -> (f64, f64) {
-        let near = self.lane(lane) + side * self.reach;
-        (near, near + side * CHANNEL)
-    }
-
-    /// The left end of the part that belongs to the lanes.
-    pub fn lanes_from(&self) -> f64 {
-        LANES_FROM
+    /// Where a flight goes down.
+    pub fn track(&self, story: &Story, at: usize) -> f64 {
+        let gutter = gutter(&story.flights[at]);
+        let count = self.tracks.count(gutter);
+        let step = gutter_width(count) / (count + 1) as f64;
+        let left = self.lanes[gutter] + self.reaches[gutter][1];
+        left + step * (self.tracks.of(at) + 1) as f64
     }
 
     pub fn headlines_at(&self) -> f64 {
-        self.lane(self.lanes - 1) + AFTER_LANES
+        let last = self.lanes.len() - 1;
+        self.lanes[last] + self.reaches[last][1] + 2.0 * FROM_LANE
     }
 
     /// Where the first row begins.
     pub fn top(&self) -> f64 {
-        self.tops[0]
+        self.pages[0].1
+    }
+
+    /// Where the last row ends.
+    pub fn bottom(&self) -> f64 {
+        self.rows
+            .last()
+            .map_or(self.top(), |(top, height)| top + height)
+    }
+
+    /// The height of the whole picture.
+    pub fn height(&self) -> f64 {
+        self.bottom() + FOOT
+    }
+
+    /// Width and height of a page on paper, in millimetres.
+    pub fn sheet(&self) -> (f64, f64) {
+        if self.width > UPRIGHT {
+            (LONG, SHORT)
+        } else {
+            (SHORT, LONG)
+        }
     }
 
     pub fn row(&self, row: usize) -> Area {
+        let (y, height) = self.rows[row];
         Area {
             x: 0.0,
-            y: self.tops[row],
+            y,
             width: self.width,
-            height: self.tops[row + 1] - self.tops[row],
+            height,
         }
     }
 
     /// The middle of a row's first slot, where packets arrive and marks stand.
     pub fn moment(&self, row: usize) -> f64 {
-        self.tops[row] + SLOT / 2.0 + 1.0
+        self.rows[row].0 + SLOT / 2.0 + 1.0
+    }
+
+    /// The middle of the slot of a row's mark.
+    pub fn mark(&self, row: &Row, at: usize, mark: usize) -> f64 {
+        self.moment(at) + SLOT * above(&row.marks, mark) as f64
     }
 
     /// The middle of the slot in which a row says that a machine has caught up.
@@ -113,20 +182,75 @@ impl Layout {
     /// Where the packet that a row sends as its `order`-th goes out: under its label, which has a
     /// slot of its own.
     pub fn departure(&self, row: &Row, at: usize, order: usize) -> f64 {
-        let slot = usize::from(first_slot_used(row)) + order;
-        self.tops[at] + (slot + 1) as f64 * SLOT
+        let slot = first_slots(row) + order;
+        self.rows[at].0 + (slot + 1) as f64 * SLOT
     }
+}
+
+/// The height of a title on every page but the first.
+pub const PAGE_TITLE: f64 = 34.0;
+
+fn gutter_width(tracks: usize) -> f64 {
+    (TRACK * (tracks + 1) as f64).min(WIDEST_GUTTER)
+}
+
+/// How far the texts of each lane reach to its left and to its right.
+fn reaches(story: &Story, count: u8) -> Vec<[f64; 2]> {
+    let mut reaches = vec![[LEAST_SIDE; 2]; usize::from(count)];
+    let mut reach = |lane: u8, side: f64, width: f64| {
+        let place = &mut reaches[usize::from(lane)][usize::from(side > 0.0)];
+        *place = place.max(width);
+    };
+    for flight in &story.flights {
+        reach(
+            flight.from,
+            side(flight),
+            FROM_LANE + text_width(&flight.label) + 4.0,
+        );
+    }
+    for row in &story.rows {
+        for mark in &row.marks {
+            for side in [-1.0, 1.0] {
+                reach(mark.machine, side, pill_width(&mark.text) / 2.0 + 4.0);
+            }
+        }
+        if let Some((flight, remark)) = &row.arrival {
+            let flight = &story.flights[*flight];
+            reach(
+                flight.to,
+                side(flight),
+                FROM_LANE + text_width(remark) + 6.0,
+            );
+        }
+    }
+    reaches
+}
+
+/// The words at the margin, line by line.
+pub fn headline(row: &Row) -> Vec<String> {
+    let text = wrapped(&row.headline, 0, HEADLINE);
+    text.lines().map(str::to_string).collect()
 }
 
 pub fn pill_width(text: &str) -> f64 {
     text_width(text) + 12.0
 }
 
-/// Does something stand or arrive in the row's first slot, so that departures come below it?
-fn first_slot_used(row: &Row) -> bool {
-    row.mark.is_some() || row.arrival.is_some()
+/// How many marks of the same lane stand above a mark.
+fn above(marks: &[Mark], at: usize) -> usize {
+    let same = |mark: &&Mark| mark.machine == marks[at].machine;
+    marks[..at].iter().filter(same).count()
+}
+
+/// The slots in which something stands or arrives; departures come below.
+fn first_slots(row: &Row) -> usize {
+    let marks = (0..row.marks.len()).map(|at| above(&row.marks, at) + 1);
+    marks
+        .max()
+        .unwrap_or(0)
+        .max(usize::from(row.arrival.is_some()))
 }
 
 fn slots(row: &Row) -> usize {
-    usize::from(first_slot_used(row)) + row.sent.len() + usize::from(row.caught_up.is_some())
+    first_slots(row) + row.sent.len() + usize::from(row.caught_up.is_some())
 }

@@ -4,8 +4,9 @@ use super::arrows::{colour, put_arrow};
 use super::columns::put_refusal;
 use super::lanes::{put_band, Look};
 use super::layout::pill_width;
+use super::marked::MarkKind;
 use super::marks::put_pill;
-use super::record::{End, MarkKind};
+use super::record::End;
 use super::svg::{text_width, Anchor, Point, Svg};
 use crate::names;
 use reference::wire::Kind;
@@ -19,7 +20,7 @@ enum Sample {
     Refusal,
 }
 
-const SAMPLES: [(Sample, &str); 17] = [
+const SAMPLES: [(Sample, &str); 19] = [
     (Sample::Packet(Kind::Ask, End::Delivered(0)), ""),
     (Sample::Packet(Kind::Grant, End::Delivered(0)), ""),
     (Sample::Packet(Kind::Data, End::Delivered(0)), ""),
@@ -38,8 +39,10 @@ const SAMPLES: [(Sample, &str); 17] = [
     (Sample::Lane(Look::In(Phase::CatchingUp)), "catching up"),
     (Sample::Lane(Look::Idle), "no job, or run lost"),
     (Sample::Pill(MarkKind::Work, "work"), ""),
+    (Sample::Pill(MarkKind::Local, "local message"), ""),
     (Sample::Pill(MarkKind::Show, "show"), ""),
     (Sample::Pill(MarkKind::Checkpoint, "checkpoint"), ""),
+    (Sample::Pill(MarkKind::Kept, "kept by the buddy"), ""),
     (Sample::Pill(MarkKind::Crash, "crash"), ""),
     (Sample::Pill(MarkKind::Restart, "restart, caught up"), ""),
     (Sample::Refusal, "refused: the question's number"),

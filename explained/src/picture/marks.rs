@@ -1,7 +1,8 @@
-//! Marks on the lanes: works, checkpoints, crashes, restarts, the end of catching up.
+//! Draws the marks on the lanes, the end of catching up, and what a delivery led to.
 
-use super::layout::{pill_width, Layout, BAND};
-use super::record::{MarkKind, Story};
+use super::layout::{pill_width, Layout, FROM_LANE};
+use super::marked::MarkKind;
+use super::record::Story;
 use super::routes::side;
 use super::svg::{Anchor, Area, Point, Svg};
 
@@ -11,8 +12,10 @@ const PILL_HEIGHT: f64 = 17.0;
 fn look(kind: MarkKind) -> (&'static str, &'static str, &'static str) {
     match kind {
         MarkKind::Work => ("#222", "#fff6cf", ""),
+        MarkKind::Local => ("#222", "#fff", ""),
         MarkKind::Show => ("#999", "#fff", "class=\"quiet\""),
         MarkKind::Checkpoint => ("#16762f", "#dff3e3", ""),
+        MarkKind::Kept => ("#16762f", "#fff", ""),
         MarkKind::Crash => ("#8c1d18", "#b3261e", "class=\"light\""),
         MarkKind::Restart => ("#2f6fb5", "#dcebfa", ""),
     }
@@ -29,7 +32,7 @@ pub fn put_pill(svg: &mut Svg, at: Point, kind: MarkKind, text: &str) {
         height: PILL_HEIGHT,
     };
     let round = match kind {
-        MarkKind::Work | MarkKind::Show => PILL_HEIGHT / 2.0,
+        MarkKind::Work | MarkKind::Local | MarkKind::Show => PILL_HEIGHT / 2.0,
         _ => 2.0,
     };
     svg.rect(
@@ -42,8 +45,8 @@ pub fn put_pill(svg: &mut Svg, at: Point, kind: MarkKind, text: &str) {
 
 pub fn put_marks(svg: &mut Svg, story: &Story, layout: &Layout) {
     for (at, row) in story.rows.iter().enumerate() {
-        if let Some(mark) = &row.mark {
-            let place = Point::new(layout.lane(mark.machine), layout.moment(at));
+        for (order, mark) in row.marks.iter().enumerate() {
+            let place = Point::new(layout.lane(mark.machine), layout.mark(row, at, order));
             put_pill(svg, place, mark.kind, &mark.text);
         }
         if let Some(machine) = row.caught_up {
@@ -54,7 +57,7 @@ pub fn put_marks(svg: &mut Svg, story: &Story, layout: &Layout) {
             // On the far side of the lane, where the arriving arrow is not.
             let flight = &story.flights[*flight];
             let side = side(flight);
-            let x = layout.lane(flight.to) + side * (BAND + 5.0);
+            let x = layout.lane(flight.to) + side * FROM_LANE;
             let anchor = if side > 0.0 {
                 Anchor::Start
             } else {

@@ -3,13 +3,17 @@
 mod arrows;
 mod columns;
 mod draw;
+mod fold;
 mod lanes;
 mod layout;
 mod legend;
+mod marked;
 mod marks;
 mod record;
 mod routes;
 mod svg;
+mod tracks;
 
-pub use draw::draw;
+pub use draw::{check_length, Drawing, MOST_FRAMES, MOST_ROWS};
 pub use record::{Recorder, Story};
+pub use svg::escape;

@@ -1,7 +1,8 @@
 //! Gathers what the picture shows: a row for each frame, a flight for each packet.
 
+use super::marked::{marks, Mark};
 use crate::lines::shown;
-use crate::names::{origin, short};
+use crate::names::{meaning, origin, place, short};
 use crate::outcome::{outcome, taken, Outcome};
 use crate::play::Step;
 use crate::words::{catching, headline::headline, Done};
@@ -13,23 +14,25 @@ use reference::wire::{Content, Kind, Name};
 use reference::world::{destination, Phase};
 
 /// All that the picture shows.
-#[derive(Default)]
+#[derive(Clone, Default)]
 pub struct Story {
     pub job: Option<Job>,
     pub rows: Vec<Row>,
     pub flights: Vec<Flight>,
 }
 
-/// One frame.
+/// One frame, or a stretch of frames that is folded.
+#[derive(Clone)]
 pub struct Row {
-    pub number: usize,
+    /// The frame's number; of a stretch, its first and its last.
+    pub numbers: (usize, usize),
     pub given: String,
     pub line: String,
     pub answer: Answer,
     pub headline: String,
     /// Is a job set, and the run not lost, after this frame?
     pub running: bool,
-    pub mark: Option<Mark>,
+    pub marks: Vec<Mark>,
     /// What the delivered flight led to.
     pub arrival: Option<(usize, String)>,
     /// The flights that begin here.
@@ -38,28 +41,17 @@ pub struct Row {
     pub caught_up: Option<u8>,
     /// The phases after the frame, machine 1 first.
     pub phases: [Phase; MAX_MACHINES],
-}
-
-/// A mark on a lane.
-pub struct Mark {
-    pub machine: u8,
-    pub kind: MarkKind,
-    pub text: String,
-}
-
-#[derive(Clone, Copy, Debug, PartialEq, Eq)]
-pub enum MarkKind {
-    Work,
-    Show,
-    Checkpoint,
-    Crash,
-    Restart,
+    /// Frames of one shape do the same with other numbers.
+    pub shape: String,
 }
 
 /// One packet, from where and when it went out to where and when it ended. Lane 0 is the desk.
+#[derive(Clone)]
 pub struct Flight {
     pub kind: Kind,
     pub label: String,
+    /// What the packet says, in words.
+    pub meaning: String,
     pub from: u8,
     pub to: u8,
     pub sent: usize,
@@ -74,9 +66,17 @@ pub enum End {
     Lost(usize),
 }
 
-/// The most characters of a frame and of the words at the margin.
+impl End {
+    pub fn row(self) -> Option<usize> {
+        match self {
+            End::OnWire => None,
+            End::Delivered(row) | End::Lost(row) => Some(row),
+        }
+    }
+}
+
+/// The most characters of a frame.
 const GIVEN: usize = 13;
-const HEADLINE: usize = 60;
 
 fn shortened(text: &str, most: usize) -> String {
     if text.chars().count() <= most {
@@ -99,17 +99,18 @@ impl Recorder {
 
     pub fn see(&mut self, step: &Step) {
         let mut row = Row {
-            number: step.number,
+            numbers: (step.number, step.number),
             given: shortened(&shown(step.given), GIVEN),
             line: step.line.to_string(),
             answer: step.answer,
-            headline: shortened(&headline(step), HEADLINE),
+            headline: headline(step),
             running: step.after.job.is_some() && !step.after.lost,
-            mark: mark(step),
+            marks: marks(step),
             arrival: None,
             sent: Vec::new(),
             caught_up: None,
             phases: step.after.world.phases,
+            shape: String::new(),
         };
         if let Some(done) = Done::new(step) {
             if self.story.job.is_none() {
@@ -118,6 +119,7 @@ impl Recorder {
             self.follow(&done, &mut row);
             row.caught_up = catching::ended(&done);
         }
+        row.shape = self.shape(step, &row);
         self.story.rows.push(row);
     }
 
@@ -127,7 +129,9 @@ impl Recorder {
         if let (Some(at), Some((name, content))) = (done.change.taken, taken(done)) {
             let flight = self.wire[at];
             self.story.flights[flight].end = End::Delivered(now);
-            row.arrival = Some((flight, remark(outcome(done, name, content))));
+            let machine = done.job.machine_of(name.receiver());
+            let remark = remark(outcome(done, name, content), machine);
+            row.arrival = Some((flight, remark));
         }
         for &at in &done.change.gone {
             self.story.flights[self.wire[at]].end = End::Lost(now);
@@ -139,17 +143,57 @@ impl Recorder {
         });
         for &(name, content) in &done.change.sent {
             let flight = self.story.flights.len();
+            let (from, to) = (origin(done.job, name), destination(done.job, name));
             self.story.flights.push(Flight {
                 kind: name.kind(),
                 label: label(name, content),
-                from: origin(done.job, name),
-                to: destination(done.job, name),
+                meaning: format!(
+                    "{}, from {} to {}",
+                    meaning(name, content),
+                    place(from),
+                    place(to)
+                ),
+                from,
+                to,
                 sent: now,
                 end: End::OnWire,
             });
             self.wire.push(flight);
             row.sent.push(flight);
         }
+    }
+
+    /// What a frame does, without SNs, TNs, values and states.
+    fn shape(&self, step: &Step, row: &Row) -> String {
+        let frame = match step.frame {
+            Some(Frame::Inject { chare, hops, .. }) => format!("inject {chare} {hops}"),
+            Some(Frame::Deliver {
+                kind,
+                sender,
+                receiver,
+                ..
+            }) => format!("deliver {kind} {sender} {receiver}"),
+            // Works of one machine are alike, whichever chare it is.
+            Some(Frame::Work { .. }) => {
+                let marks = row.marks.iter().map(|mark| (mark.machine, mark.kind));
+                format!("work {:?}", marks.collect::<Vec<_>>())
+            }
+            Some(ref other) => format!("{other:?}"),
+            // What is no frame is like no other.
+            None => format!("line {}", step.number),
+        };
+        let answer = match step.answer {
+            Answer::Shown { .. } => "shown".to_string(),
+            other => format!("{other:?}"),
+        };
+        let sent = row.sent.iter().map(|&at| &self.story.flights[at]);
+        let sent: Vec<_> = sent.map(|f| (f.kind, f.from, f.to)).collect();
+        let remark = row.arrival.as_ref().map_or("", |(_, remark)| remark);
+        let remark = remark.replace(|letter: char| letter.is_ascii_digit(), "");
+        let Row {
+            caught_up, phases, ..
+        } = row;
+        format!("{frame} {answer} {sent:?} {remark} {caught_up:?} {phases:?}")
     }
 }
 
@@ -164,8 +208,8 @@ fn label(name: Name, content: Content) -> String {
     }
 }
 
-/// What a delivery led to, in very few words.
-fn remark(outcome: Outcome) -> String {
+/// What a delivery led to, in very few words. Notes are held for `machine`.
+fn remark(outcome: Outcome, machine: u8) -> String {
     match outcome {
         Outcome::Known { tn, .. } => format!("has TN {tn}"),
         Outcome::Worked => "worked before".to_string(),
@@ -176,50 +220,20 @@ fn remark(outcome: Outcome) -> String {
         Outcome::Set { tn } | Outcome::SetAndSent { tn } => format!("TN {tn} logged"),
         Outcome::Filled { tn } => format!("fills TN {tn}"),
         Outcome::FilledBefore { .. } | Outcome::NoEntry => "dropped".to_string(),
-        Outcome::Stored { .. } => "stored".to_string(),
-        Outcome::StoredBefore => "stored before".to_string(),
+        Outcome::Stored { notes, .. } => format!("notes for {machine}: {notes}"),
+        Outcome::StoredBefore => "noted before".to_string(),
         Outcome::Noted { tn } => format!("TN {tn} noted"),
         Outcome::NotedBefore { .. } => "noted before".to_string(),
         Outcome::NothingToNote => "nothing to note".to_string(),
     }
 }
 
-fn mark(step: &Step) -> Option<Mark> {
-    if matches!(step.answer, Answer::Refused(_)) {
-        return None;
-    }
-    let job = step.job()?;
-    let (machine, kind, text) = match *step.frame.as_ref()? {
-        Frame::Work { chare } => {
-            let tn = step.after.world.chare(chare).height;
-            let text = format!("chare {chare} works TN {tn}");
-            (job.machine_of(chare), MarkKind::Work, text)
-        }
-        Frame::Show { chare } => (
-            job.machine_of(chare),
-            MarkKind::Show,
-            format!("chare {chare} shown"),
-        ),
-        Frame::Checkpoint { machine } => {
-            let text = format!("checkpoint to {}", job.buddy_of(machine));
-            (machine, MarkKind::Checkpoint, text)
-        }
-        Frame::Crash { machine } => match step.answer {
-            Answer::Lost => (machine, MarkKind::Crash, "crash, no cover".to_string()),
-            _ => (machine, MarkKind::Crash, "crash".to_string()),
-        },
-        Frame::Restart { machine } => (machine, MarkKind::Restart, "restart".to_string()),
-        Frame::Job(_) | Frame::Inject { .. } | Frame::Deliver { .. } => return None,
-    };
-    Some(Mark {
-        machine,
-        kind,
-        text,
-    })
-}
-
 impl Row {
     pub fn is_refused(&self) -> bool {
         matches!(self.answer, Answer::Refused(_))
+    }
+
+    pub fn is_folded(&self) -> bool {
+        self.numbers.0 != self.numbers.1
     }
 }

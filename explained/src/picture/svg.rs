@@ -160,15 +160,34 @@ impl Svg {
         writeln!(self.body, "{shape}").expect("a string takes every text");
     }
 
-    /// The whole file.
-    pub fn finish(self, width: f64, height: f64) -> String {
-        let [w, h] = [width, height].map(number);
+    /// What follows belongs to a packet, explained by this text.
+    pub fn open_packet(&mut self, title: &str) {
+        self.put(format_args!(
+            "<g class=\"packet\"><title>{}</title>",
+            escape(title)
+        ));
+    }
+
+    pub fn close_packet(&mut self) {
+        self.put(format_args!("</g>"));
+    }
+
+    /// A file with what stands from `top` on, `height` high. `size` is the size on paper, else pixels.
+    pub fn file(
+        &self,
+        width: f64,
+        top: f64,
+        height: f64,
+        size: Option<&(String, String)>,
+    ) -> String {
+        let [w, y, h] = [width, top, height].map(number);
+        let (wide, high) = size.map_or((&w, &h), |(wide, high)| (wide, high));
         format!(
             "<svg xmlns=\"http://www.w3.org/2000/svg\" \
-                    width=\"{w}\" height=\"{h}\" viewBox=\"0 0 {w} {h}\">
+                    width=\"{wide}\" height=\"{high}\" viewBox=\"0 {y} {w} {h}\">
 <style>{STYLE}</style>
 <defs>{HATCH}</defs>
-<rect width=\"{w}\" height=\"{h}\" fill=\"#fff\"/>
+<rect y=\"{y}\" width=\"{w}\" height=\"{h}\" fill=\"#fff\"/>
 {}</svg>
 ",
             self.body

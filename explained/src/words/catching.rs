@@ -3,7 +3,7 @@
 use super::Done;
 use crate::names::{joined, message};
 use reference::frame::Frame;
-use reference::job::ix;
+use reference::job::{ix, Job};
 use reference::world::{Phase, World};
 
 /// The machine that is catching up, if one is.
@@ -34,7 +34,10 @@ pub fn words(done: &Done) -> Option<String> {
         });
     }
     let machine = catching(done.after)?;
-    concerns(done, machine).then(|| left(done, machine))
+    concerns(done, machine).then(|| {
+        let left = left(done.job, done.after, machine).join("; ");
+        format!("Machine {machine} is catching up: {left}.")
+    })
 }
 
 /// Can this frame have moved the machine's catching up?
@@ -50,14 +53,11 @@ fn concerns(done: &Done, machine: u8) -> bool {
     }
 }
 
-/// What is left to catch up.
-fn left(done: &Done, machine: u8) -> String {
+/// What is left to catch up, each part by itself.
+pub fn left(job: &Job, world: &World, machine: u8) -> Vec<String> {
     let mut parts = Vec::new();
-    for chare in done.job.chares_on(machine) {
-        let (height, target) = (
-            done.after.chare(chare).height,
-            done.after.targets[ix(chare)],
-        );
+    for chare in job.chares_on(machine) {
+        let (height, target) = (world.chare(chare).height, world.targets[ix(chare)]);
         if height < target {
             parts.push(format!(
                 "chare {chare} must work on to TN {target} (height {height})"
@@ -65,8 +65,8 @@ fn left(done: &Done, machine: u8) -> String {
         }
     }
     let mut waiting = Vec::new();
-    for chare in done.job.chares_on(machine) {
-        let log = &done.after.chare(chare).log.0;
+    for chare in job.chares_on(machine) {
+        let log = &world.chare(chare).log.0;
         let without = log.iter().filter(|m| m.tn.is_none());
         waiting.extend(without.map(|m| message(chare, m.receiver, m.sn)));
     }
@@ -75,5 +75,5 @@ fn left(done: &Done, machine: u8) -> String {
         1 => parts.push(format!("{} in its log has no TN", joined(&waiting))),
         _ => parts.push(format!("{} in its logs have no TN", joined(&waiting))),
     }
-    format!("Machine {machine} is catching up: {}.", parts.join("; "))
+    parts
 }

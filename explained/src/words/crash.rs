@@ -27,14 +27,21 @@ pub fn words(done: &Done, machine: u8) -> Vec<String> {
     }
     for backed in done.job.machines() {
         let backup = &done.before.backups[ix(backed)];
-        if done.job.buddy_of(backed) == machine && backup.has_copy {
-            let notes = match backup.notes.len() {
-                0 => "no notes".to_string(),
-                held => count(held, "note"),
-            };
+        if done.job.buddy_of(backed) != machine {
+            continue;
+        }
+        let notes = match backup.notes.len() {
+            0 => "no notes".to_string(),
+            held => count(held, "note"),
+        };
+        if backup.has_copy {
             lines.push(format!(
                 "Gone too: what it kept for machine {backed}, a copy and {notes}. \
                     Machine {backed} has no cover until its next checkpoint."
+            ));
+        } else if !backup.notes.is_empty() {
+            lines.push(format!(
+                "Gone too: {notes} that it kept for machine {backed}, of which it held no copy."
             ));
         }
     }
@@ -61,31 +68,35 @@ pub fn lost(step: &Step) -> Vec<String> {
     let Some(Frame::Crash { machine }) = step.frame else {
         return Vec::new();
     };
+    let why = no_cover(step).join("; ");
     vec![
-        format!(
-            "Crash of machine {machine} without cover: {}.",
-            no_cover(step, machine)
-        ),
+        format!("Crash of machine {machine} without cover: {why}."),
         "The run is lost. Nothing else changes, and no later frame is accepted.".to_string(),
     ]
 }
 
-/// Why a crash of this machine has no cover.
-pub fn no_cover(step: &Step, machine: u8) -> String {
+/// Every reason why this crash has no cover.
+pub fn no_cover(step: &Step) -> Vec<String> {
     let world = &step.before.world;
-    let Some(job) = step.job() else {
-        return String::new();
+    let (Some(Frame::Crash { machine }), Some(job)) = (step.frame, step.job()) else {
+        return Vec::new();
     };
+    let mut reasons = Vec::new();
     for other in job.machines() {
         match world.phases[ix(other)] {
             Phase::Up => {}
-            Phase::Down => return format!("machine {other} is down"),
-            Phase::CatchingUp if other == machine => return "it is catching up itself".to_string(),
-            Phase::CatchingUp => return format!("machine {other} is catching up"),
+            Phase::Down => reasons.push(format!("machine {other} is down")),
+            Phase::CatchingUp if other == machine => {
+                reasons.push("it is catching up itself".to_string())
+            }
+            Phase::CatchingUp => reasons.push(format!("machine {other} is catching up")),
         }
     }
-    format!(
-        "machine {}, the buddy, does not hold its copy",
-        job.buddy_of(machine)
-    )
+    if !world.backups[ix(machine)].has_copy {
+        let buddy = job.buddy_of(machine);
+        reasons.push(format!(
+            "machine {buddy}, the buddy, does not hold its copy"
+        ));
+    }
+    reasons
 }

@@ -2,8 +2,9 @@
 
 use super::send::ticket_source;
 use super::Done;
-use crate::names::{capital, message, packet, place, sender};
+use crate::names::{body, capital, message, packet, place, sender};
 use crate::outcome::{outcome, taken, Outcome};
+use reference::message::Body;
 use reference::wire::{Content, Name};
 use reference::world::destination;
 
@@ -71,8 +72,8 @@ fn effect(done: &Done, name: Name, content: Content) -> String {
                 return String::new();
             };
             format!(
-                "TN {tn} of chare {chare} is filled (value {value}, hops {hops}); \
-                    the height is {height}."
+                "TN {tn} of chare {chare} is filled ({}); the height is {height}.",
+                body(Body { value, hops })
             )
         }
         Outcome::FilledBefore { tn } => {

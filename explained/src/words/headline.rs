@@ -1,7 +1,8 @@
 //! A frame in a few words, for the margin of the picture.
 
+use super::crash::no_cover;
 use super::refusal;
-use crate::names::{count, message, short};
+use crate::names::{self, count, message, short};
 use crate::play::Step;
 use crate::traffic::named;
 use reference::answer::Answer;
@@ -28,7 +29,11 @@ pub fn headline(step: &Step) -> String {
         }
         Frame::Inject { chare, value, .. } => {
             let sn = step.after.world.desk.sent[ix(chare)];
-            format!("inject {}, value {value}", message(DESK, chare, sn))
+            format!(
+                "inject {}, value {}",
+                message(DESK, chare, sn),
+                names::value(value)
+            )
         }
         Frame::Deliver { .. } => match named(frame) {
             Some(name) => format!("deliver {}", short(name)),
@@ -40,7 +45,10 @@ pub fn headline(step: &Step) -> String {
         }
         Frame::Checkpoint { machine } => format!("checkpoint of machine {machine}"),
         Frame::Crash { machine } => match step.answer {
-            Answer::Lost => format!("crash of machine {machine}, no cover"),
+            Answer::Lost => {
+                let why = no_cover(step).join("; ");
+                format!("crash of machine {machine}, no cover: {why}")
+            }
             _ => format!("crash of machine {machine}, with cover"),
         },
         Frame::Restart { machine } => format!("restart of machine {machine}"),

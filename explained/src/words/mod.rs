@@ -2,7 +2,7 @@
 
 pub mod catching;
 mod checkpoint;
-mod crash;
+pub mod crash;
 mod deliver;
 mod garbled;
 pub mod headline;
@@ -18,6 +18,7 @@ use crate::traffic::{change, Change};
 use reference::answer::Answer;
 use reference::frame::Frame;
 use reference::job::Job;
+use reference::message::Body;
 use reference::world::{destination, World};
 
 /// An accepted frame, with all that the words are made from.
@@ -82,7 +83,7 @@ pub fn words(step: &Step) -> Vec<String> {
 fn accepted(done: &Done, answer: Answer) -> Vec<String> {
     let mut lines = match *done.frame {
         Frame::Job(ref draft) => job::words(done.job, draft),
-        Frame::Inject { chare, value, hops } => send::inject(done, chare, value, hops),
+        Frame::Inject { chare, value, hops } => send::inject(done, chare, Body { value, hops }),
         Frame::Deliver { .. } => deliver::words(done),
         Frame::Work { chare } => send::work(done, chare),
         Frame::Checkpoint { machine } => checkpoint::words(done, machine),
@@ -99,10 +100,10 @@ fn show(chare: u8, answer: Answer) -> Vec<String> {
         return Vec::new();
     };
     let worked = match height {
-        0 => "has worked nothing".to_string(),
+        0 => "has worked nothing, height 0".to_string(),
         height => format!("has worked up to TN {height}"),
     };
     vec![format!(
-        "Show: chare {chare} {worked} (height {height:04X}); its state is {state:08X}."
+        "Show: chare {chare} {worked} (hex {height:04X}); its state is {state:08X}."
     )]
 }

@@ -10,6 +10,7 @@ use reference::job::{ix, Job};
 use reference::limits::{
     DESK, LOG_SIZE, MAX_NUMBER, NOTES_SIZE, TABLE_SIZE, WINDOW_BITS, WIRE_SIZE,
 };
+use reference::send::{Plan, Planned, Route};
 use reference::wire::Kind;
 use reference::world::{destination, World};
 
@@ -67,8 +68,8 @@ pub fn reason(step: &Step, question: Question) -> String {
         },
         Question::Up => not_up(job, world, frame),
         Question::Present => not_present(world, frame),
-        Question::Number => format!("a number would pass {MAX_NUMBER}"),
-        Question::Window => outside_window(world, frame),
+        Question::Number => too_large(job, world, frame),
+        Question::Window => outside_window(job, world, frame),
         Question::LogSpace => log_full(job, world, frame),
         Question::Space => no_space(job, world, frame),
         Question::WireSpace => wire_full(job, world, frame),
@@ -109,20 +110,65 @@ fn not_present(world: &World, frame: &Frame) -> String {
     }
 }
 
-fn outside_window(world: &World, frame: &Frame) -> String {
-    let Some(name) = named(frame) else {
-        return format!("a message it sends has an SN above mark + {WINDOW_BITS}");
-    };
-    let mark = world.chare(name.receiver()).seen[name.sender() as usize].mark;
-    format!("SN {} is above mark {mark} + {WINDOW_BITS}", name.sn())
+/// Which number would pass 60,000.
+fn too_large(job: &Job, world: &World, frame: &Frame) -> String {
+    let next = MAX_NUMBER + 1;
+    let sn = |from: u8, to: u8| format!("the SN of {from}→{to} would be {next}");
+    let tn = |chare: u8| format!("the next TN of chare {chare} would be {next}");
+    match *frame {
+        Frame::Inject { chare, .. } => sn(DESK, chare),
+        Frame::Work { chare } => {
+            let (_, plan) = planned(job, world, chare);
+            match plan.iter().find(|p| p.sn > MAX_NUMBER) {
+                Some(send) => sn(chare, send.receiver),
+                None => {
+                    let taking =
+                        |p: &&Planned| matches!(p.route, Route::Takes(tn) if tn > MAX_NUMBER);
+                    plan.iter()
+                        .find(taking)
+                        .map_or_else(String::new, |send| tn(send.receiver))
+                }
+            }
+        }
+        _ => named(frame).map_or_else(String::new, |name| tn(name.receiver())),
+    }
+}
+
+/// The sends of a work that is refused, and the world in which they are judged: with the message worked.
+fn planned(job: &Job, world: &World, chare: u8) -> (World, Plan) {
+    let mut worked = world.clone();
+    // Refused by a later question, so there is a message to work.
+    let _ = worked.begin_work(chare);
+    let plan = worked.plan(job, chare);
+    (worked, plan)
+}
+
+/// The new tickets of a plan for a chare.
+fn entering(plan: &Plan, to: u8) -> usize {
+    let new = |p: &&Planned| p.receiver == to && matches!(p.route, Route::Takes(_));
+    plan.iter().filter(new).count()
+}
+
+fn outside_window(job: &Job, world: &World, frame: &Frame) -> String {
+    let above = |sn: u16, mark: u16| format!("SN {sn} is above mark {mark} + {WINDOW_BITS}");
+    if let Frame::Work { chare } = *frame {
+        let (worked, plan) = planned(job, world, chare);
+        let seen = |p: &Planned| worked.chare(p.receiver).seen[usize::from(chare)];
+        let outside = |p: &&Planned| matches!(p.route, Route::Takes(_)) && !seen(p).admits(p.sn);
+        return plan.iter().find(outside).map_or_else(String::new, |p| {
+            let what = message(chare, p.receiver, p.sn);
+            format!("it sends {what}, and {}", above(p.sn, seen(p).mark))
+        });
+    }
+    named(frame).map_or_else(String::new, |name| {
+        let mark = world.chare(name.receiver()).seen[name.sender() as usize].mark;
+        above(name.sn(), mark)
+    })
 }
 
 fn log_full(job: &Job, world: &World, frame: &Frame) -> String {
     let (from, sent) = match *frame {
-        Frame::Work { chare } => (
-            chare,
-            job.ports_of(chare).iter().filter(|&&p| p != 0).count(),
-        ),
+        Frame::Work { chare } => (chare, planned(job, world, chare).1.len()),
         _ => (DESK, 1),
     };
     let held = world.log(from).0.len();
@@ -135,11 +181,13 @@ fn log_full(job: &Job, world: &World, frame: &Frame) -> String {
 fn no_space(job: &Job, world: &World, frame: &Frame) -> String {
     match (*frame, named(frame)) {
         (Frame::Work { chare }, _) => {
-            let here = |&port: &u8| port != 0 && job.machine_of(port) == job.machine_of(chare);
-            let mut ports = job.ports_of(chare).into_iter().filter(here);
-            let entering = |to| entering(job, world, chare, to);
-            let full = ports.find(|&to| world.chare(to).table.0.len() + entering(to) > TABLE_SIZE);
-            full.map_or_else(String::new, |to| table_full(world, to, entering(to)))
+            let (_, plan) = planned(job, world, chare);
+            let full = |to: u8| world.chare(to).table.0.len() + entering(&plan, to) > TABLE_SIZE;
+            let to = plan
+                .iter()
+                .map(|p| p.receiver)
+                .find(|&to| entering(&plan, to) > 0 && full(to));
+            to.map_or_else(String::new, |to| table_full(world, to, entering(&plan, to)))
         }
         (_, Some(name)) if name.kind() == Kind::Note => {
             let machine = job.machine_of(name.receiver());
@@ -156,36 +204,16 @@ fn table_full(world: &World, chare: u8, more: usize) -> String {
     format!("the table of chare {chare} holds {held} of {TABLE_SIZE}, {more} more to enter")
 }
 
-/// The new tickets that a work would enter in the table of a chare of its machine.
-fn entering(job: &Job, world: &World, chare: u8, to: u8) -> usize {
-    let sends = job
-        .ports_of(chare)
-        .iter()
-        .filter(|&&port| port == to)
-        .count() as u16;
-    let sent = world.chare(chare).sent[ix(to)];
-    let known = |&sn: &u16| world.chare(to).table.find(chare, sn).is_some();
-    (sent + 1..=sent + sends).filter(|sn| !known(sn)).count()
-}
-
 fn wire_full(job: &Job, world: &World, frame: &Frame) -> String {
     let held = format!("the wire holds {} of {WIRE_SIZE}", world.wire.len());
     match *frame {
         Frame::Restart { .. } => format!("{held}, and those sent again are too many"),
-        Frame::Work { chare } => format!("{held}, {} more to send", packets(job, world, chare)),
+        Frame::Work { chare } => {
+            // An ASK to another machine, a NOTE for each new ticket.
+            let (_, plan) = planned(job, world, chare);
+            let packets = plan.iter().filter(|p| !matches!(p.route, Route::Fills(_)));
+            format!("{held}, {} more to send", packets.count())
+        }
         _ => format!("{held}, 1 more to send"),
     }
-}
-
-/// The packets that a work would send: an ASK to another machine, a NOTE for each new ticket.
-fn packets(job: &Job, world: &World, chare: u8) -> usize {
-    let [one, two] = job.ports_of(chare);
-    let mut ports = vec![one, two];
-    ports.retain(|&port| port != 0);
-    let here = |port: u8| job.machine_of(port) == job.machine_of(chare);
-    let asks = ports.iter().filter(|&&port| !here(port)).count();
-    ports.retain(|&port| here(port));
-    ports.dedup();
-    let notes = ports.iter().map(|&port| entering(job, world, chare, port));
-    asks + notes.sum::<usize>()
 }

@@ -1,16 +1,17 @@
 //! The words for injections and works, the frames that send messages.
 
 use super::Done;
-use crate::names::{message, place, sender, tickets};
+use crate::names::{self, message, place, sender, tickets};
 use reference::job::ix;
 use reference::limits::DESK;
-use reference::message::Logged;
+use reference::message::{Body, Logged};
 
-pub fn inject(done: &Done, chare: u8, value: u16, hops: u8) -> Vec<String> {
+pub fn inject(done: &Done, chare: u8, body: Body) -> Vec<String> {
     let sn = done.after.desk.sent[ix(chare)];
     let mut lines = vec![format!(
-        "Inject: the desk sends {} (value {value}, hops {hops}) and logs it, without a TN yet.",
-        message(DESK, chare, sn)
+        "Inject: the desk sends {} ({}) and logs it, without a TN yet.",
+        message(DESK, chare, sn),
+        names::body(body)
     )];
     lines.extend(done.sent());
     lines
@@ -25,15 +26,16 @@ pub fn work(done: &Done, chare: u8) -> Vec<String> {
     let body = entry.received.unwrap_or_default();
     let mut lines = vec![
         format!(
-            "Work: chare {chare} on {} works TN {tn}, the message {} (value {}, hops {}).",
+            "Work: chare {chare} on {} works TN {tn}, the message {} ({}).",
             place(done.job.machine_of(chare)),
             message(entry.sender, chare, entry.sn),
-            body.value,
-            body.hops
+            names::body(body)
         ),
         format!(
-            "State {:08X}, rotated left by 5, plus {:04X}, gives {:08X}; the height is now {tn}.",
-            before.state, body.value, after.state
+            "State {:08X}, rotated left by 5, plus {}, gives {:08X}; the height is now {tn}.",
+            before.state,
+            names::value(body.value),
+            after.state
         ),
     ];
     lines.push(worked_of(done, chare, entry.sender, entry.sn));
@@ -71,10 +73,9 @@ fn send(done: &Done, chare: u8, logged: &Logged) -> String {
         receiver, sn, body, ..
     } = *logged;
     let what = format!(
-        "It sends {} (value {}, hops {}) and logs it",
+        "It sends {} ({}) and logs it",
         message(chare, receiver, sn),
-        body.value,
-        body.hops
+        names::body(body)
     );
     let Some(tn) = logged.tn else {
         return format!("{what}, without a TN yet.");

@@ -3,8 +3,11 @@
 // Not every test needs all of it.
 #![allow(dead_code)]
 
+pub mod run;
+
+use explained::engine;
+use explained::picture::{Drawing, Story};
 use explained::report::{report, Report};
-use reference::engine::transcript;
 use std::fs;
 use std::path::{Path, PathBuf};
 
@@ -34,7 +37,11 @@ pub fn list(name: &str) -> Vec<u8> {
 }
 
 pub fn explained(input: &[u8]) -> Report {
-    let report = report(input, &transcript(input));
+    let report = report(input, &engine::lines(input));
     assert_eq!(report.difference, None);
     report
+}
+
+pub fn drawn(title: &str, story: &Story) -> String {
+    Drawing::new(title, story).expect("a picture").whole()
 }

@@ -1,0 +1,169 @@
+//! Clicks, types and points through the page of a list in a browser, and compares all that it shows with what the list gives.
+//! `tools/page-in-browser.sh` starts the browser and this.
+
+mod browser;
+
+use browser::Browser;
+use explained::play::play;
+use explained::state::compared;
+use explained::words::words;
+use explained::{engine, notation};
+use std::process::ExitCode;
+
+/// What the page shows of one frame.
+struct Moment {
+    head: String,
+    text: String,
+    state: String,
+}
+
+fn moments(list: &[u8]) -> Vec<Moment> {
+    let mut moments = Vec::new();
+    let result = play(list, &engine::lines(list), |step| {
+        let mut state = Vec::new();
+        for section in compared(step.before, step.after) {
+            state.push(section.title.clone());
+            if section.entries.is_empty() {
+                state.push("  nothing".to_string());
+            }
+            let entries = section.entries.iter();
+            state.extend(entries.map(|entry| format!("{} {}", entry.mark.sign(), entry.whole())));
+        }
+        moments.push(Moment {
+            head: step.head(),
+            text: words(step).join("\n"),
+            state: state.join("\n"),
+        });
+    });
+    assert!(result.is_ok(), "the lines differ");
+    moments
+}
+
+/// The titles of the packets that have a label, in the order of the page.
+fn titles(page: &str) -> Vec<String> {
+    let lines: Vec<&str> = page.lines().collect();
+    let start = "<g class=\"packet\"><title>";
+    let labels = lines
+        .windows(2)
+        .filter(|pair| pair[0].starts_with(start) && pair[1].starts_with("<text"));
+    let title = |pair: &[&str]| {
+        pair[0][start.len()..]
+            .replace("</title>", "")
+            .replace("&gt;", ">")
+    };
+    labels.map(title).collect()
+}
+
+fn same(what: &str, frame: usize, got: &str, want: &str) {
+    assert_eq!(got, want, "frame {frame}: {what}");
+}
+
+/// Is this frame shown, and all that belongs to it?
+fn check(browser: &mut Browser, moments: &[Moment], at: usize) {
+    let (frame, count) = (at + 1, moments.len());
+    let lines = |id: &str| {
+        format!("[...document.getElementById('{id}').children].map(e => e.textContent).join('\\n')")
+    };
+    let text = |id: &str| format!("document.getElementById('{id}').textContent");
+    same(
+        "place",
+        frame,
+        &browser.value(&text("place")),
+        &format!("frame {frame} of {count}"),
+    );
+    same(
+        "head",
+        frame,
+        &browser.value(&text("head")),
+        &moments[at].head,
+    );
+    same(
+        "words",
+        frame,
+        &browser.value(&lines("text")),
+        &moments[at].text,
+    );
+    same(
+        "state",
+        frame,
+        &browser.value(&lines("state")),
+        &moments[at].state,
+    );
+    let marked =
+        browser.value("String(document.querySelectorAll('#state .new, #state .gone').length)");
+    let changes = moments[at]
+        .state
+        .lines()
+        .filter(|line| line.starts_with(['*', '-']))
+        .count();
+    same("marks", frame, &marked, &changes.to_string());
+    // The row with the frame's number is marked, and in sight; a folded frame has no number.
+    let seen = browser.value(&format!(
+        "(() => {{ const r = row.getBoundingClientRect(), p = picture.getBoundingClientRect(); \
+         const number = [...svg.querySelectorAll('text.quiet')].find(t => t.textContent === '{frame}'); \
+         const n = number ? number.getBoundingClientRect() : r; \
+         return String(r.height > 0 && r.top >= p.top - 1 && r.top < p.bottom && r.top <= n.top && n.bottom <= r.bottom); }})()"
+    ));
+    same("row in sight", frame, &seen, "true");
+}
+
+fn main() -> ExitCode {
+    let args: Vec<String> = std::env::args().skip(1).collect();
+    let [to, from, page, list] = &args[..] else {
+        eprintln!("click_through TO FROM PAGE LIST, with the two pipes of a browser");
+        return ExitCode::from(2);
+    };
+    let given = std::fs::read(list).expect("a list");
+    let moments = moments(&notation::digits(&given).expect("a list"));
+    let last = moments.len() - 1;
+    let html = std::fs::read_to_string(page).expect("a page");
+    let mut browser = Browser::open(to, from, page);
+    check(&mut browser, &moments, 0);
+    // Forward, with button and key in turn.
+    for at in 1..=last {
+        match at % 2 {
+            0 => browser.press("ArrowRight", 39),
+            _ => browser.click("document.getElementById('next')"),
+        }
+        check(&mut browser, &moments, at);
+    }
+    // At the end there is nothing more; then back.
+    browser.press("ArrowRight", 39);
+    check(&mut browser, &moments, last);
+    for at in (0..last).rev().take(6) {
+        match at % 2 {
+            0 => browser.press("ArrowLeft", 37),
+            _ => browser.click("document.getElementById('back')"),
+        }
+        check(&mut browser, &moments, at);
+    }
+    browser.press("End", 35);
+    check(&mut browser, &moments, last);
+    browser.press("Home", 36);
+    check(&mut browser, &moments, 0);
+    // A click on the number of a row; the first ones and the last are never folded.
+    for at in [1, last] {
+        let number = format!(
+            "[...svg.querySelectorAll('text.quiet')].find(t => t.textContent === '{}')",
+            at + 1
+        );
+        browser.click(&number);
+        check(&mut browser, &moments, at);
+    }
+    // Every packet with its label.
+    let titles = titles(&html);
+    for (at, title) in titles.iter().enumerate() {
+        browser.point(&format!("document.querySelectorAll('.packet text')[{at}]"));
+        let shown = browser.value("document.getElementById('packet').textContent");
+        assert_eq!(&shown, title, "packet {}", at + 1);
+    }
+    let labels = browser.value("String(document.querySelectorAll('.packet text').length)");
+    assert_eq!(labels, titles.len().to_string(), "packets");
+    browser.close();
+    println!(
+        "the page shows what the list gives: {} frames by button and key, {} packets pointed at, nothing fetched, no error",
+        moments.len(),
+        titles.len()
+    );
+    ExitCode::SUCCESS
+}

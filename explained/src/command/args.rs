@@ -1,0 +1,149 @@
+//! What was asked, from the words of the call. Options may stand anywhere; after `--` there are none.
+
+use super::Failure;
+use std::ffi::{OsStr, OsString};
+
+#[derive(Clone, Copy, Debug, PartialEq, Eq)]
+pub enum Task {
+    Help,
+    Play,
+    Explain,
+    Picture,
+    Page,
+    State(usize),
+    Next,
+    Encode,
+    Decode,
+}
+
+pub struct Asked {
+    pub task: Task,
+    pub quick: bool,
+    pub pages: bool,
+    pub list: OsString,
+    /// The file to write, for a picture or a page.
+    pub out: Option<OsString>,
+}
+
+/// The options as they were found.
+#[derive(Default)]
+struct Options {
+    help: bool,
+    quick: bool,
+    pages: bool,
+    picture: Option<OsString>,
+}
+
+fn usage<T>(message: String) -> Result<T, Failure> {
+    Err(Failure::Usage(message))
+}
+
+impl Asked {
+    pub fn new(given: Vec<OsString>) -> Result<Asked, Failure> {
+        let (options, words) = sort(given)?;
+        let help = Asked {
+            task: Task::Help,
+            quick: false,
+            pages: false,
+            list: OsString::new(),
+            out: None,
+        };
+        if options.help {
+            return Ok(help);
+        }
+        let mut words = words.into_iter();
+        let Some(name) = words.next() else {
+            return usage("nothing to do: no subcommand was given".to_string());
+        };
+        let mut word = |what: &str| match words.next() {
+            Some(word) => Ok(word),
+            None => usage(format!("{} needs {what}", name.to_string_lossy())),
+        };
+        let task = match name.to_str() {
+            Some("help") => return Ok(help),
+            Some("play") => Task::Play,
+            Some("explain") => Task::Explain,
+            Some("picture") => Task::Picture,
+            Some("page") => Task::Page,
+            Some("state") => Task::State(frame(&word("the number of a frame, and a list")?)?),
+            Some("next") => Task::Next,
+            Some("encode") => Task::Encode,
+            Some("decode") => Task::Decode,
+            _ => {
+                return usage(format!(
+                    "there is no subcommand \"{}\"",
+                    name.to_string_lossy()
+                ))
+            }
+        };
+        let list = word("a list (a file, or - for standard input)")?;
+        let out = match task {
+            Task::Picture => Some(word("a file to write, such as out.svg")?),
+            Task::Page => Some(word("a file to write, such as out.html")?),
+            Task::Explain => options.picture.clone(),
+            _ => None,
+        };
+        if let Some(more) = words.next() {
+            return usage(format!("\"{}\" is too much", more.to_string_lossy()));
+        }
+        if options.picture.is_some() && task != Task::Explain {
+            return usage("--picture goes with explain alone".to_string());
+        }
+        if options.pages && task != Task::Picture {
+            return usage("--pages goes with picture alone".to_string());
+        }
+        Ok(Asked {
+            task,
+            quick: options.quick,
+            pages: options.pages,
+            list,
+            out,
+        })
+    }
+
+    /// Does it need lines, and are these to be the proved engine's?
+    pub fn needs_engine(&self) -> bool {
+        !self.quick && !matches!(self.task, Task::Help | Task::Encode | Task::Decode)
+    }
+}
+
+/// Options and other words, apart.
+fn sort(given: Vec<OsString>) -> Result<(Options, Vec<OsString>), Failure> {
+    let (mut options, mut words) = (Options::default(), Vec::new());
+    let mut given = given.into_iter();
+    while let Some(word) = given.next() {
+        match word.to_str() {
+            Some("--") => {
+                words.extend(given.by_ref());
+            }
+            Some("--help" | "-h") => options.help = true,
+            Some("--quick") => options.quick = true,
+            Some("--pages") => options.pages = true,
+            Some("--picture") => match given.next() {
+                Some(file) => options.picture = Some(file),
+                None => return usage("--picture needs a file to write".to_string()),
+            },
+            _ if is_option(&word) => {
+                return usage(format!("there is no option \"{}\"", word.to_string_lossy()));
+            }
+            _ => words.push(word),
+        }
+    }
+    Ok((options, words))
+}
+
+/// `-` alone is standard input.
+fn is_option(word: &OsStr) -> bool {
+    let bytes = word.as_encoded_bytes();
+    bytes.len() > 1 && bytes[0] == b'-'
+}
+
+fn frame(word: &OsStr) -> Result<usize, Failure> {
+    match word.to_str().and_then(|word| word.parse().ok()) {
+        Some(number) => Ok(number),
+        None => usage(format!(
+            "\"{}\" is no number of a frame: state N LIST, N from 0",
+            word.to_string_lossy()
+        )),
+    }
+}

@@ -1,0 +1,156 @@
+//! The subcommands.
+
+use super::args::{Asked, Task};
+use super::files::{self, print};
+use super::usage::HELP;
+use super::{Failure, DIFFERENT, DONE, NEEDS_ENGINE};
+use crate::hints::hints;
+use crate::lines::cut;
+use crate::picture::{check_length, Drawing, Story};
+use crate::play::Difference;
+use crate::state::Wrong;
+use crate::{ahead, engine, notation, page, report, state};
+use reference::reader::answer_all;
+
+/// Is the call good, and its list? Says whether the engine is needed.
+pub fn check(asked: &Asked) -> Result<u8, Failure> {
+    if asked.task != Task::Help {
+        look_at_out(asked)?;
+        if !files::is_standard_input(&asked.list) {
+            let input = files::read(&asked.list)?;
+            files::digits(&asked.list, &input)?;
+        }
+    }
+    Ok(match asked.needs_engine() {
+        true => NEEDS_ENGINE,
+        false => DONE,
+    })
+}
+
+/// Can the result be written where it is to be, and does it not lie on the list?
+fn look_at_out(asked: &Asked) -> Result<(), Failure> {
+    match &asked.out {
+        Some(out) => {
+            files::keep_apart(&asked.list, out)?;
+            files::look_at_folder(out)
+        }
+        None => Ok(()),
+    }
+}
+
+pub fn run(asked: &Asked) -> Result<u8, Failure> {
+    if asked.task == Task::Help {
+        print(HELP.as_bytes())?;
+        return Ok(DONE);
+    }
+    if asked.needs_engine() && !engine::LINKED {
+        return Err(Failure::Usage(
+            "built without the proved engine: tools/satuphir builds it, --quick does without"
+                .to_string(),
+        ));
+    }
+    look_at_out(asked)?;
+    let input = files::read(&asked.list)?;
+    let digits = files::digits(&asked.list, &input)?;
+    match asked.task {
+        Task::Encode => print(&digits)?,
+        Task::Decode => print(notation::decode(&digits).as_bytes())?,
+        _ => {
+            for hint in hints(&input) {
+                eprintln!("satuphir: note: {hint}");
+            }
+            return with_lines(asked, &digits);
+        }
+    }
+    Ok(DONE)
+}
+
+const QUICK: &str = "the second implementation's, not the proved engine's";
+
+/// What needs the lines of the list.
+fn with_lines(asked: &Asked, digits: &[u8]) -> Result<u8, Failure> {
+    let (lines, whose) = match asked.quick {
+        true => (answer_all(digits), QUICK),
+        false => (engine::lines(digits), "the proved engine's"),
+    };
+    if asked.quick {
+        eprintln!("satuphir: --quick: the lines are {QUICK}");
+    }
+    let difference = match asked.task {
+        Task::Play => print(&lines).map(|()| None)?,
+        Task::State(number) => match state::after(digits, &lines, number) {
+            Ok(text) => print(text.as_bytes()).map(|()| None)?,
+            Err(Wrong::NoFrame(message)) => return Err(Failure::Usage(message)),
+            Err(Wrong::Difference(difference)) => Some(difference),
+        },
+        Task::Next => match ahead::next(digits, &lines) {
+            Ok(text) => print(text.as_bytes()).map(|()| None)?,
+            Err(difference) => Some(difference),
+        },
+        Task::Page => {
+            let page = page::page(&title(asked), whose, digits, &lines);
+            let page = page.map_err(|message| too_long(asked, message))?;
+            put_file(asked, &page.html)?;
+            page.difference
+        }
+        _ => {
+            if asked.out.is_some() {
+                check_length(cut(digits).len()).map_err(|message| too_long(asked, message))?;
+            }
+            let report = report::report(digits, &lines);
+            if asked.out.is_some() {
+                put_picture(asked, &report.story)?;
+            }
+            if asked.task == Task::Explain {
+                print(report.text.as_bytes())?;
+            }
+            report.difference
+        }
+    };
+    Ok(status(difference))
+}
+
+/// What stands over a picture or a page. It outlives the run, so it too says whose lines these are not.
+fn title(asked: &Asked) -> String {
+    let name = files::title(&asked.list);
+    match asked.quick {
+        true => format!("{name} (not the proved engine's lines)"),
+        false => name,
+    }
+}
+
+fn too_long(asked: &Asked, message: String) -> Failure {
+    Failure::File(format!("{}: {message}", files::title(&asked.list)))
+}
+
+fn put_file(asked: &Asked, text: &str) -> Result<(), Failure> {
+    match &asked.out {
+        Some(out) => files::write(out, text),
+        None => Ok(()),
+    }
+}
+
+fn put_picture(asked: &Asked, story: &Story) -> Result<(), Failure> {
+    let drawing = Drawing::new(&title(asked), story);
+    let drawing = drawing.map_err(|message| too_long(asked, message))?;
+    if !asked.pages {
+        return put_file(asked, &drawing.whole());
+    }
+    let out = asked.out.as_deref().unwrap_or_default();
+    for (at, page) in drawing.pages().iter().enumerate() {
+        let out = files::page(out, at + 1);
+        files::keep_apart(&asked.list, &out)?;
+        files::write(&out, page)?;
+    }
+    Ok(())
+}
+
+fn status(difference: Option<Difference>) -> u8 {
+    match difference {
+        None => DONE,
+        Some(difference) => {
+            eprint!("{difference}");
+            DIFFERENT
+        }
+    }
+}

@@ -1,0 +1,24 @@
+//! The help.
+
+pub const HELP: &str = "\
+tools/satuphir play LIST                 the lines, one for each frame
+tools/satuphir explain LIST              each frame with its line, in words
+tools/satuphir picture LIST OUT.svg      who sent what to whom, as a picture
+tools/satuphir page LIST OUT.html        picture, words and state in one page, to click through
+tools/satuphir state N LIST              all that stands after frame N, with what it changed
+tools/satuphir next LIST                 what would be accepted after the list, and what would not
+tools/satuphir encode LIST               words to hexadecimal digits
+tools/satuphir decode LIST               hexadecimal digits to words
+
+LIST is a file, or - for standard input, in words or in hexadecimal digits (docs/RULES.md has both).
+
+--quick               play with the second implementation, which builds in seconds: these are not
+                      the proved engine's lines, and every such run says so
+--picture OUT.svg     with explain: the picture too
+--pages               with picture: one file for each sheet of A4, OUT-1.svg, OUT-2.svg, ...
+--help                this
+
+The first call that needs the proved engine proves and builds it, which takes minutes.
+Status: 0 done; 1 the engine and the second implementation differ; 2 bad usage, a list that
+cannot be read or has a mistake in its words, a result that cannot be written.
+";

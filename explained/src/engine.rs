@@ -1,0 +1,19 @@
+//! Whose lines a run gives.
+
+#[cfg(not(feature = "engine"))]
+use reference::reader::answer_all;
+
+/// Was this built with the proved engine?
+pub const LINKED: bool = cfg!(feature = "engine");
+
+/// The proved engine's lines for a list of digits.
+#[cfg(feature = "engine")]
+pub fn lines(input: &[u8]) -> Vec<u8> {
+    reference::engine::transcript(input)
+}
+
+/// Built without the engine, there are the second implementation's alone. The command asks for `--quick` then.
+#[cfg(not(feature = "engine"))]
+pub fn lines(input: &[u8]) -> Vec<u8> {
+    answer_all(input)
+}

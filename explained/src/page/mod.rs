@@ -1,0 +1,109 @@
+//! One page to click through: the picture beside the words, and the state of the moment. It fetches nothing from elsewhere.
+
+mod json;
+
+use crate::lines::cut;
+use crate::picture::{Drawing, Recorder};
+use crate::play::{play, Difference, Step};
+use crate::state::compared;
+use crate::words::words;
+use json::{array, quoted};
+use std::fmt::Write;
+
+/// A page holds the state after each frame, so a longer list would make it heavy.
+pub const MOST_FRAMES: usize = 1000;
+
+pub struct Page {
+    pub html: String,
+    pub difference: Option<Difference>,
+}
+
+/// The page of a list, given the lines for it and whose they are.
+pub fn page(title: &str, whose: &str, input: &[u8], lines: &[u8]) -> Result<Page, String> {
+    let frames = cut(input).len();
+    if frames > MOST_FRAMES {
+        return Err(format!(
+            "too long for a page: {frames} frames, and a page has at most {MOST_FRAMES}"
+        ));
+    }
+    let mut recorder = Recorder::new();
+    let mut moments = Vec::new();
+    let result = play(input, lines, |step| {
+        recorder.see(step);
+        moments.push(moment(step));
+    });
+    let drawing = Drawing::new(title, &recorder.story)?;
+    let rows = drawing.rows.iter();
+    let rows = rows.map(|(top, height)| format!("[{top:.1},{height:.1}]"));
+    let data = format!(
+        "{{\"moments\":{},\"rows\":{}}}",
+        array(moments),
+        array(rows.collect())
+    );
+    Ok(Page {
+        html: html(title, whose, &drawing.whole(), &data),
+        difference: result.err(),
+    })
+}
+
+/// Frame, words and state after it.
+fn moment(step: &Step) -> String {
+    let text = words(step).iter().map(|line| quoted(line)).collect();
+    let mut sections = Vec::new();
+    for section in compared(step.before, step.after) {
+        let entry = |e: &crate::state::Entry| {
+            let sign = e.mark.sign().to_string();
+            format!("[{},{}]", quoted(&sign), quoted(&e.whole()))
+        };
+        let entries = section.entries.iter().map(entry).collect();
+        sections.push(format!("[{},{}]", quoted(&section.title), array(entries)));
+    }
+    format!(
+        "{{\"head\":{},\"text\":{},\"state\":{}}}",
+        quoted(&step.head()),
+        array(text),
+        array(sections)
+    )
+}
+
+fn html(title: &str, whose: &str, picture: &str, data: &str) -> String {
+    let title = crate::picture::escape(title);
+    let mut page = String::new();
+    let _ = write!(
+        page,
+        "<!DOCTYPE html>
+<html lang=\"en\">
+<head>
+<meta charset=\"utf-8\">
+<title>{title}</title>
+<style>
+{style}</style>
+</head>
+<body>
+<header>
+<h1>{title}</h1>
+<button id=\"back\" type=\"button\">Back</button>
+<span id=\"place\"></span>
+<button id=\"next\" type=\"button\">Next</button>
+<p>Keys: arrows, Home, End; or click a row of the picture. The lines are {whose}.</p>
+</header>
+<main>
+<div id=\"picture\">
+{picture}</div>
+<div id=\"side\">
+<section><h2 id=\"head\"></h2><div id=\"text\" aria-live=\"polite\"></div></section>
+<section><h2>Packet</h2><p id=\"packet\"></p></section>
+<section><h2>What stands</h2><p class=\"key\">* new or other than before, - gone</p><div id=\"state\"></div></section>
+</div>
+</main>
+<script type=\"application/json\" id=\"data\">{data}</script>
+<script>
+{script}</script>
+</body>
+</html>
+",
+        style = include_str!("page.css"),
+        script = include_str!("page.js"),
+    );
+    page
+}

@@ -1,0 +1,75 @@
+//! All that stands after a frame, with what the frame changed.
+
+mod change;
+mod facts;
+
+pub use change::{compared, Entry, Mark, Section};
+
+use crate::names::count;
+use crate::play::{play, Difference, Step};
+use reference::state::State;
+
+/// What stands after frame `number`, 0 being before the first. The state is the second implementation's, compared line by line
+/// with the engine up to there.
+pub fn after(input: &[u8], engine: &[u8], number: usize) -> Result<String, Wrong> {
+    let (mut text, mut frames) = (None, 0);
+    if number == 0 {
+        let empty = State::new();
+        text = Some(format!(
+            "Before the first frame\n{}",
+            listed(&compared(&empty, &empty))
+        ));
+    }
+    play(input, engine, |step| {
+        frames = step.number;
+        if step.number == number {
+            text = Some(of_step(step));
+        }
+    })
+    .map_err(Wrong::Difference)?;
+    text.ok_or_else(|| {
+        Wrong::NoFrame(format!(
+            "there is no frame {number}: the list has {}",
+            count(frames, "frame")
+        ))
+    })
+}
+
+/// Why a moment cannot be shown.
+#[derive(Debug)]
+pub enum Wrong {
+    NoFrame(String),
+    Difference(Difference),
+}
+
+fn of_step(step: &Step) -> String {
+    let sections = compared(step.before, step.after);
+    let any = sections
+        .iter()
+        .flat_map(|s| &s.entries)
+        .any(|entry| entry.mark != Mark::Same);
+    let note = match any {
+        true => "What it changed: * new or other than before, - gone.",
+        false => "It changed nothing.",
+    };
+    format!(
+        "After frame {}:  {}\n{note}\n{}",
+        step.number,
+        step.head(),
+        listed(&sections)
+    )
+}
+
+fn listed(sections: &[Section]) -> String {
+    let mut text = String::new();
+    for section in sections {
+        text.push_str(&format!("\n{}\n", section.title));
+        if section.entries.is_empty() {
+            text.push_str("    nothing\n");
+        }
+        for entry in &section.entries {
+            text.push_str(&format!("  {} {}\n", entry.mark.sign(), entry.whole()));
+        }
+    }
+    text
+}

@@ -1,0 +1,206 @@
+//! What the documents show is what the command gives.
+
+mod common;
+
+use common::run::{fed, fresh, run};
+use explained::notation::{decode, encode};
+use reference::reader::answer_all;
+use std::fs;
+use std::path::{Path, PathBuf};
+
+fn root() -> PathBuf {
+    Path::new(env!("CARGO_MANIFEST_DIR")).join("..")
+}
+
+fn document(name: &str) -> String {
+    fs::read_to_string(root().join(name)).expect("a document")
+}
+
+/// The fenced blocks of a language.
+fn blocks<'a>(text: &'a str, language: &str) -> Vec<&'a str> {
+    let start = format!("```{language}\n");
+    let rest = text.split(&start).skip(1);
+    rest.map(|block| &block[..block.find("```").expect("an end")])
+        .collect()
+}
+
+/// The cells of the rows of all tables, without their code marks.
+fn rows(text: &str) -> Vec<Vec<String>> {
+    let rows = text
+        .lines()
+        .filter(|line| line.starts_with("| ") && !line.starts_with("|---"));
+    let cell = |cell: &str| cell.trim().to_string();
+    rows.map(|row| row.trim_matches('|').split(" | ").map(cell).collect())
+        .collect()
+}
+
+fn plain(cell: &str) -> String {
+    cell.replace('`', "")
+}
+
+/// The list that README writes down.
+fn own_list() -> String {
+    let readme = document("README.md");
+    let block = blocks(&readme, "sh")[0];
+    let from = block.find("<<'END'\n").expect("a list") + "<<'END'\n".len();
+    block[from..block.rfind("END").expect("an end")].to_string()
+}
+
+#[test]
+fn the_sitting_of_readme() {
+    let list = own_list();
+    let (status, lines, _) = fed(&["play", "-"], list.as_bytes());
+    assert_eq!((status, lines.as_str()), (0, "00\n00\n00\n06\n"));
+    let readme = document("README.md");
+    let shown = blocks(&readme, "text");
+    let [frame, refused, next] = shown[..] else {
+        panic!("{} blocks", shown.len());
+    };
+    let rule_book = root().join("examples/00-the-rule-books-sitting.in");
+    let (_, text, _) = run(&["explain".as_ref(), rule_book.as_os_str()]);
+    assert!(text.contains(frame), "{frame}");
+    let (_, text, _) = fed(&["explain", "-"], list.as_bytes());
+    assert!(text.contains(refused), "{refused}");
+    let (_, text, _) = fed(&["next", "-"], list.as_bytes());
+    assert!(text.contains(next), "{next}");
+}
+
+/// Every call of README, as typed, but for the building.
+#[test]
+fn the_calls_of_readme() {
+    let folder = fresh("readme");
+    fs::write(folder.join("mine.txt"), own_list()).expect("a list");
+    let readme = document("README.md");
+    let calls = blocks(&readme, "sh").into_iter().flat_map(str::lines);
+    let calls: Vec<&str> = calls
+        .filter(|line| line.starts_with("tools/satuphir ") && line.contains("mine"))
+        .collect();
+    assert_eq!(calls.len(), 4);
+    for call in calls {
+        let words: Vec<&str> = call.split(' ').skip(1).collect();
+        let output = common::run::satuphir()
+            .args(&words)
+            .current_dir(&folder)
+            .output()
+            .expect("a run");
+        assert!(output.status.success(), "{call}");
+    }
+    assert!(folder.join("mine.html").is_file());
+    // The table has every subcommand of the help, and the other way round.
+    let help = run(&["--help"]).1;
+    let called = |text: &str| -> Vec<String> {
+        let calls = text
+            .split("tools/satuphir ")
+            .skip(1)
+            .filter_map(|rest| rest.split([' ', '`', '\n']).next());
+        let is_name =
+            |name: &&str| !name.is_empty() && name.bytes().all(|b| b.is_ascii_lowercase());
+        let mut names: Vec<String> = calls.filter(is_name).map(str::to_string).collect();
+        names.sort();
+        names.dedup();
+        names
+    };
+    assert_eq!(called(&readme), called(&help));
+}
+
+/// The rule book's sitting in README: frame, words and line of each row.
+#[test]
+fn the_table_of_readme() {
+    let list =
+        fs::read_to_string(root().join("examples/00-the-rule-books-sitting.in")).expect("a list");
+    let lines = String::from_utf8(answer_all(list.as_bytes())).expect("digits");
+    let readme = document("README.md");
+    let rows: Vec<Vec<String>> = rows(&readme)
+        .into_iter()
+        .filter(|row| row.len() == 4 && row[0] != "frame")
+        .collect();
+    assert_eq!(rows.len(), lines.lines().count());
+    for ((row, frame), line) in rows.iter().zip(list.lines()).zip(lines.lines()) {
+        assert_eq!(
+            (plain(&row[0]).as_str(), plain(&row[2]).as_str()),
+            (frame, line)
+        );
+        let words = decode(frame.as_bytes());
+        assert_eq!(words.lines().next(), Some(plain(&row[1]).as_str()));
+    }
+}
+
+#[test]
+fn the_frames_of_the_rules() {
+    let rules = document("docs/RULES.md");
+    let rows: Vec<Vec<String>> = rows(&rules)
+        .into_iter()
+        .filter(|row| row[0].starts_with('`') && row.len() == 3)
+        .collect();
+    assert_eq!(rows.len(), 9);
+    for row in rows {
+        // A job is given with its chares.
+        let words = plain(&row[0])
+            .replace(" with ", "\n")
+            .replace(", chare", "\nchare");
+        let digits = encode(words.as_bytes()).expect("a frame");
+        assert_eq!(
+            String::from_utf8_lossy(&digits).trim_end(),
+            plain(&row[1]),
+            "{words}"
+        );
+    }
+}
+
+/// How many must-fail edits there are.
+#[test]
+fn the_edits_of_readme() {
+    fn edits(folder: &Path) -> usize {
+        let files = fs::read_dir(folder)
+            .expect("a folder")
+            .map(|file| file.expect("a file").path());
+        let count = |path: PathBuf| match path.is_dir() {
+            true => edits(&path),
+            false => usize::from(path.extension().is_some_and(|end| end == "edit")),
+        };
+        files.map(count).sum()
+    }
+    let readme = document("README.md");
+    let readme = readme.split_whitespace().collect::<Vec<_>>().join(" ");
+    for (folder, words) in [
+        ("crates", "must-fail edits and every program"),
+        ("must-fail", "must-fail edits more"),
+    ] {
+        let want = format!("{} {words}", edits(&root().join(folder)));
+        assert!(readme.contains(&want), "README does not say: {want}");
+    }
+}
+
+/// What the documents name is there.
+#[test]
+fn names_of_files() {
+    for (name, from) in [
+        ("README.md", "."),
+        ("docs/RULES.md", "."),
+        ("explained/README.md", "explained"),
+        ("examples/README.md", "examples"),
+    ] {
+        let text = document(name);
+        for word in text.split('`').skip(1).step_by(2) {
+            let path = word.split_whitespace().next().unwrap_or_default();
+            let known = [
+                "crates/",
+                "docs/",
+                "tools/",
+                "examples/",
+                "explained/",
+                "reference/",
+                "c/",
+                "src/",
+                "../",
+            ];
+            let shown = path.contains(['*', '<']) || path.contains("NAME");
+            if known.iter().any(|start| path.starts_with(start))
+                && !shown
+                && !path.contains("target")
+            {
+                assert!(root().join(from).join(path).exists(), "{name}: {path}");
+            }
+        }
+    }
+}

@@ -1,0 +1,123 @@
+//! What `state` marks is what a frame changed: all of it, and nothing else.
+
+use explained::lines::cut;
+use explained::state::{compared, Mark};
+use reference::generator;
+use reference::state::State;
+
+fn marked(before: &State, after: &State) -> usize {
+    let sections = compared(before, after);
+    let entries = sections.iter().flat_map(|section| &section.entries);
+    entries.filter(|entry| entry.mark != Mark::Same).count()
+}
+
+#[test]
+fn a_change_is_marked_and_nothing_else() {
+    for seed in 0..25 {
+        let mut state = State::new();
+        for (at, line) in cut(&generator::list(seed, 300)).into_iter().enumerate() {
+            let before = state.clone();
+            state.line(line);
+            let changed = marked(&before, &state) > 0;
+            assert_eq!(changed, before != state, "seed {seed}, frame {}", at + 1);
+        }
+    }
+}
+
+/// Every number that a state holds is shown: one that is made other shows.
+#[test]
+fn every_part_is_shown() {
+    let lists = (0..60).map(|seed| generator::list(seed, 400));
+    let played = lists.map(|list| {
+        let mut state = State::new();
+        for line in cut(&list) {
+            state.line(line);
+        }
+        state
+    });
+    let mut tried = [0; 14];
+    for state in played.filter(|state| state.job.is_some()) {
+        let changes: [fn(&mut State) -> bool; 14] = [
+            |s| {
+                change(s.world.chares.iter_mut().find(|c| c.height > 0), |c| {
+                    c.state ^= 1
+                })
+            },
+            |s| {
+                change(s.world.chares.iter_mut().find(|c| c.height > 0), |c| {
+                    c.height += 1
+                })
+            },
+            |s| {
+                change(
+                    s.world.chares.iter_mut().find(|c| c.seen[0].mark > 0),
+                    |c| c.seen[0].mark += 1,
+                )
+            },
+            |s| {
+                change(
+                    s.world.chares.iter_mut().find(|c| c.seen[0].mark > 0),
+                    |c| c.seen[0].window ^= 1 << 63,
+                )
+            },
+            |s| {
+                change(s.world.chares.iter_mut().find(|c| c.sent[0] > 0), |c| {
+                    c.sent[0] += 1
+                })
+            },
+            |s| change(entry(s), |e| e.tn += 100),
+            |s| change(entry(s), |e| e.noted = !e.noted),
+            |s| {
+                change(entry(s), |e| {
+                    e.received = e.received.xor(Some(Default::default()))
+                })
+            },
+            |s| {
+                change(s.world.desk.log.0.first_mut(), |m| {
+                    m.tn = m.tn.xor(Some(77))
+                })
+            },
+            |s| change(s.world.desk.log.0.first_mut(), |m| m.body.value ^= 1),
+            |s| {
+                change(s.world.backups.iter_mut().find(|b| b.has_copy), |b| {
+                    b.has_copy = false
+                })
+            },
+            |s| {
+                change(s.world.copies.iter_mut().find(|c| c.height > 0), |c| {
+                    c.state ^= 1
+                })
+            },
+            |s| {
+                change(
+                    s.world.backups.iter_mut().find(|b| !b.notes.is_empty()),
+                    |b| b.notes.clear(),
+                )
+            },
+            |s| {
+                change(
+                    (!s.world.wire.is_empty()).then_some(&mut s.world.wire),
+                    |w| w.remove(0),
+                )
+            },
+        ];
+        for (at, make) in changes.iter().enumerate() {
+            let mut other = state.clone();
+            if make(&mut other) {
+                tried[at] += 1;
+                assert!(marked(&state, &other) > 0, "change {at}");
+            }
+        }
+    }
+    assert!(tried.iter().all(|&n| n > 0), "{tried:?}");
+}
+
+fn entry(state: &mut State) -> Option<&mut reference::table::Entry> {
+    let mut chares = state.world.chares.iter_mut();
+    chares.find_map(|chare| chare.table.0.first_mut())
+}
+
+/// Changes a part, if there is one.
+fn change<T>(part: Option<&mut T>, make: impl FnOnce(&mut T)) -> bool {
+    part.map(make).is_some()
+}

@@ -1,0 +1,339 @@
+//! What cannot be done: each with its message, status 2, and nothing on standard output.
+
+mod common;
+
+use common::folder;
+use common::run::{fed, fresh, result, run, satuphir};
+use std::ffi::OsStr;
+use std::fs::{self, File};
+use std::os::unix::ffi::OsStrExt;
+use std::path::Path;
+
+const HINT: &str = "satuphir: `tools/satuphir --help` says how it is called\n";
+
+fn example() -> String {
+    folder().join("01-plain-delivery.in").display().to_string()
+}
+
+#[test]
+fn bad_calls() {
+    let list = example();
+    for (args, message) in [
+        (&[][..], "nothing to do: no subcommand was given"),
+        (&["ply", &list], "there is no subcommand \"ply\""),
+        (
+            &["play"],
+            "play needs a list (a file, or - for standard input)",
+        ),
+        (&["play", &list, "more"], "\"more\" is too much"),
+        (&["play", "--slow", &list], "there is no option \"--slow\""),
+        (&["play", &list, "-q"], "there is no option \"-q\""),
+        (
+            &["picture", &list],
+            "picture needs a file to write, such as out.svg",
+        ),
+        (
+            &["page", &list],
+            "page needs a file to write, such as out.html",
+        ),
+        (
+            &["state", "six", &list],
+            "\"six\" is no number of a frame: state N LIST, N from 0",
+        ),
+        (&["state"], "state needs the number of a frame, and a list"),
+        (
+            &["state", "6"],
+            "state needs a list (a file, or - for standard input)",
+        ),
+        (
+            &["state", "99", &list],
+            "there is no frame 99: the list has 14 frames",
+        ),
+        (
+            &["explain", &list, "--picture"],
+            "--picture needs a file to write",
+        ),
+        (
+            &["play", &list, "--picture", "x.svg"],
+            "--picture goes with explain alone",
+        ),
+        (
+            &["explain", &list, "--pages"],
+            "--pages goes with picture alone",
+        ),
+    ] {
+        let (status, out, error) = run(args);
+        assert_eq!((status, out.as_str()), (2, ""), "{args:?}");
+        assert_eq!(error, format!("satuphir: {message}\n{HINT}"), "{args:?}");
+    }
+}
+
+/// Each subcommand with a list of this name.
+fn with_list(list: &OsStr) -> Vec<Vec<&OsStr>> {
+    let out = Path::new("/dev/null").as_os_str();
+    let word = OsStr::new;
+    vec![
+        vec![word("play"), list],
+        vec![word("explain"), list],
+        vec![word("picture"), list, out],
+        vec![word("page"), list, out],
+        vec![word("state"), word("1"), list],
+        vec![word("next"), list],
+        vec![word("encode"), list],
+        vec![word("decode"), list],
+    ]
+}
+
+#[test]
+fn lists_that_cannot_be_read() {
+    let folder = fresh("unread");
+    for (name, reason) in [
+        ("missing", "No such file or directory (os error 2)"),
+        (".", "Is a directory (os error 21)"),
+    ] {
+        let list = folder.join(name);
+        for args in with_list(list.as_os_str()) {
+            let (status, out, error) = run(&args);
+            assert_eq!((status, out.as_str()), (2, ""), "{args:?}");
+            assert_eq!(error, format!("satuphir: {}: {reason}\n", list.display()));
+        }
+    }
+}
+
+/// A directory on standard input is no empty list.
+#[test]
+fn an_input_that_cannot_be_read() {
+    let input = File::open(fresh("input")).expect("a folder");
+    let output = satuphir().args(["play", "-"]).stdin(input).output();
+    let (status, out, error) = result(output.expect("a run"));
+    assert_eq!((status, out.as_str()), (2, ""));
+    assert_eq!(
+        error,
+        "satuphir: standard input: Is a directory (os error 21)\n"
+    );
+}
+
+/// A disk that is full is noticed, on standard output and in a file.
+#[test]
+fn a_full_disk() {
+    let (list, full) = (example(), "/dev/full");
+    let word = "No space left on device (os error 28)\n";
+    for task in [
+        &["play"][..],
+        &["explain"],
+        &["state", "3"],
+        &["next"],
+        &["encode"],
+        &["decode"],
+        &["--help"],
+    ] {
+        let args = task.iter().copied().chain([list.as_str()]);
+        let disk = File::options().write(true).open(full).expect("a full disk");
+        let output = satuphir().args(args).stdout(disk).output();
+        let (status, _, error) = result(output.expect("a run"));
+        assert_eq!(
+            (status, error),
+            (2, format!("satuphir: standard output: {word}")),
+            "{task:?}"
+        );
+    }
+    for task in ["picture", "page"] {
+        let (status, _, error) = run(&[task, &list, full]);
+        assert_eq!(
+            (status, error),
+            (2, format!("satuphir: {full}: {word}")),
+            "{task}"
+        );
+    }
+}
+
+#[test]
+fn a_folder_that_is_not_there() {
+    for task in ["picture", "page"] {
+        let (status, out, error) = run(&[task, &example(), "/nowhere/out"]);
+        assert_eq!((status, out.as_str()), (2, ""));
+        assert_eq!(
+            error,
+            "satuphir: /nowhere/out: No such file or directory (os error 2)\n"
+        );
+    }
+}
+
+/// The list is not written over by what is made from it, by whatever name.
+#[test]
+fn a_result_onto_its_own_list() {
+    let folder = fresh("onto");
+    let (list, other) = (folder.join("list.in"), folder.join("link.in"));
+    fs::copy(example(), &list).expect("a copy");
+    fs::hard_link(&list, &other).expect("a link");
+    let before = fs::read(&list).expect("a list");
+    let word = OsStr::new;
+    for out in [&list, &other] {
+        let (list, out) = (list.as_os_str(), out.as_os_str());
+        for args in [
+            &[word("picture"), list, out][..],
+            &[word("page"), list, out],
+            &[word("explain"), list, word("--picture"), out],
+        ] {
+            let (status, _, error) = run(args);
+            let message = format!(
+                "satuphir: {} is the list itself, and would be written over\n{HINT}",
+                Path::new(out).display()
+            );
+            assert_eq!((status, error), (2, message));
+            assert!(fs::read(list).expect("a list") == before);
+        }
+    }
+}
+
+#[test]
+fn names_that_are_not_utf_8() {
+    let folder = fresh("names");
+    let (list, out) = (
+        folder.join(OsStr::from_bytes(b"\xFFlist.in")),
+        folder.join(OsStr::from_bytes(b"\xFE.svg")),
+    );
+    let (list, out) = (list.as_os_str(), out.as_os_str());
+    let word = OsStr::new;
+    assert_eq!(run(&[word("play"), list]).0, 2);
+    fs::copy(example(), list).expect("a copy");
+    for args in [
+        &[word("play"), list][..],
+        &[word("explain"), list, word("--picture"), out],
+        &[word("picture"), list, out],
+        &[word("page"), list, out],
+    ] {
+        assert_eq!(run(args).0, 0, "{args:?}");
+    }
+    let (status, _, error) = run(&[OsStr::from_bytes(b"\xFF")]);
+    assert_eq!(
+        (status, error),
+        (
+            2,
+            format!("satuphir: there is no subcommand \"\u{FFFD}\"\n{HINT}")
+        )
+    );
+}
+
+/// Lists that are read, but can hardly be meant so: a note, and the lines.
+#[test]
+fn lists_with_a_note() {
+    let note = |text: &str| format!("satuphir: note: {text}\n");
+    for (list, lines, message) in [
+        (&b""[..], "", note("the list is empty: no frame, no line")),
+        (
+            b"1201\r\n1601\r\n",
+            "01\n01\n",
+            note("2 of 2 lines end in CR LF; in digits a line ends in LF alone, and the CR makes it 01 (`tr -d '\\r'` takes it away)"),
+        ),
+        (
+            b"# a list\n1201\n",
+            "01\n02\n",
+            note("1 line with #; a list in digits has no comments, and such a line gets 01 (a list in words may have them)"),
+        ),
+        (
+            b"\x7FELF\x02\x01\x01\n\0\0\n",
+            "01\n01\n",
+            note("no line of this is a frame, in digits or in words: is it a list?"),
+        ),
+        (b"1201\n1601\r\n1601\n", "02\n01\n02\n", String::new()),
+        (b"work 1\r\nshow 1\r\n", "02\n02\n", String::new()),
+    ] {
+        assert_eq!(fed(&["play", "-"], list), (0, lines.to_string(), message));
+    }
+    let (_, _, error) = fed(&["explain", "-"], b"1201\r\n");
+    assert!(error.contains("CR LF"), "{error}");
+}
+
+/// No subcommand stumbles over an empty list, a binary file or CR LF: each says its word and goes on.
+#[test]
+fn odd_lists_in_every_subcommand() {
+    let folder = fresh("odd");
+    for (name, bytes, word) in [
+        ("empty", &b""[..], "the list is empty"),
+        (
+            "binary",
+            b"\x7FELF\x02\0\n\0\xFF\n",
+            "no line of this is a frame",
+        ),
+        ("returns", b"1201\r\n1601\r\n", "2 of 2 lines end in CR LF"),
+    ] {
+        let list = folder.join(name);
+        fs::write(&list, bytes).expect("a list");
+        for args in with_list(list.as_os_str()) {
+            let (status, out, error) = run(&args);
+            let task = args[0].to_string_lossy();
+            // An empty list has no frame 1.
+            if task == "state" && name == "empty" {
+                assert_eq!((status, out.as_str()), (2, ""));
+                assert!(
+                    error.contains("there is no frame 1: the list has 0 frames"),
+                    "{error}"
+                );
+                continue;
+            }
+            assert_eq!(status, 0, "{args:?}: {error}");
+            let silent = task == "encode" || task == "decode";
+            assert_eq!(
+                error.starts_with(&format!("satuphir: note: {word}")),
+                !silent,
+                "{args:?}: {error}"
+            );
+        }
+    }
+}
+
+#[test]
+fn a_mistake_in_words() {
+    let folder = fresh("mistake");
+    let list = folder.join("list.txt");
+    fs::write(&list, "job 2 machines\nchare 1 on 1\nwork x\n").expect("a list");
+    for args in with_list(list.as_os_str()) {
+        let (status, out, error) = run(&args);
+        assert_eq!((status, out.as_str()), (2, ""), "{args:?}");
+        let message = "line 3, column 6: expected a chare, from 0 to 255, found \"x\"";
+        assert_eq!(error, format!("satuphir: {}, {message}\n", list.display()));
+    }
+}
+
+#[test]
+fn a_list_too_long_to_draw() {
+    let list = reference::generator::list(107, 5000);
+    let longer = b"1201\n".repeat(5001);
+    for (list, task, message) in [
+        (&list, "picture", "too long to draw: 5000 frames, "),
+        (
+            &longer,
+            "picture",
+            "too long to draw: 5001 frames, and a picture has at most 5000\n",
+        ),
+        (
+            &list,
+            "page",
+            "too long for a page: 5000 frames, and a page has at most 1000\n",
+        ),
+    ] {
+        let (status, out, error) = fed(&[task, "-", "/dev/null"], list);
+        assert_eq!((status, out.as_str()), (2, ""), "{task}");
+        let message = format!("satuphir: standard input: {message}");
+        assert!(error.starts_with(&message), "{error}");
+    }
+}
+
+/// A reader that has seen enough is no error.
+#[test]
+fn a_closed_pipe() {
+    let list = "1201\n".repeat(200_000);
+    let folder = fresh("pipe");
+    fs::write(folder.join("list"), list).expect("a list");
+    let command = format!(
+        "{} play list | head -n 1; echo ${{PIPESTATUS[0]}}",
+        env!("CARGO_BIN_EXE_satuphir")
+    );
+    let output = std::process::Command::new("bash")
+        .args(["-c", &command])
+        .current_dir(folder)
+        .output();
+    let (_, out, error) = result(output.expect("a run"));
+    assert_eq!((out.as_str(), error.as_str()), ("02\n0\n", ""));
+}
