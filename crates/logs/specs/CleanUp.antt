@@ -2,10 +2,10 @@
 use mathlib.Core.Path.{_≡_, refl, _∙_, fun-ext}
 use mathlib.Core.Bool.{Bool, true, false, cond, not, _&&_}
 use mathlib.Core.List.{List, [], _∷_, map}
-use Prim.Native.Nat.{ℕ}
+use Prim.Native.Nat.{ℕ, _≤_, _<_}
 use native.Mathlib.Omega.{arith}
-use borrow.Author.Tests.{eq-eqb, ne-eqb, le-ltb, ltb-true, ltb-false, le-leb, lt-leb}
-use lib.Dec.{eqb, ltb, leb}
+use borrow.Author.Tests.{le-ltb, lt-ltb}
+use lib.Dec.{eqb}
 use lib.ListN.{length}
 use Rattle.lists.specs.Tests.{either}
 use Rattle.lists.specs.Lists.{keep}
@@ -17,21 +17,26 @@ use Rattle.words.specs.Sift.{sifted, sift-start, map-same}
 use Rattle.logs.specs.Log.{logged-of, entries, is-kept}
 
 module _ (limit : ℕ → ℕ) (x : Logged) where
-  pub kept-blank : x .tn ≡ 0 → true ≡ is-kept limit x
+  -- at the limit or above it
+  pub kept-high : limit (x .message .receiver) ≤ x .tn → true ≡ is-kept limit x
   unfolding is-kept
-  kept-blank e = rw (eq-eqb (x .tn) 0 e)
-
-  pub kept-unlimited : limit (x .message .receiver) ≡ 0 → true ≡ is-kept limit x
-  unfolding is-kept
-  kept-unlimited e = rw (e, le-ltb (x .tn) 0 (omega arith)) (go (eqb (x .tn) 0))
+  kept-high h = rw (le-ltb (x .tn) (limit (x .message .receiver)) h) (go (eqb (x .tn) 0))
     where
       go : (b : Bool) → true ≡ not (not b && false)
       go true = refl
       go false = refl
 
-  pub kept-by : (l : ℕ) → (x .tn ≡ 0 → ⊥) → l ≡ limit (x .message .receiver) → leb l (x .tn) ≡ is-kept limit x
+  pub kept-unlimited : limit (x .message .receiver) ≡ 0 → true ≡ is-kept limit x
+  kept-unlimited e = kept-high (omega arith)
+
+  -- below it
+  pub kept-low : x .tn < limit (x .message .receiver) → eqb (x .tn) 0 ≡ is-kept limit x
   unfolding is-kept
-  kept-by l d e = rw (ne-eqb (x .tn) 0 d, ← e) (either (ltb (x .tn) l) (λ q. rw (q, lt-leb l (x .tn) (ltb-true _ _ q))) (λ q. rw (q, le-leb l (x .tn) (ltb-false _ _ q))))
+  kept-low h = rw (lt-ltb (x .tn) (limit (x .message .receiver)) h) (go (eqb (x .tn) 0))
+    where
+      go : (b : Bool) → b ≡ not (not b && true)
+      go true = refl
+      go false = refl
 
 -- the limits of a checkpoint of p: the heights of its chares, and none for others
 unfoldable pub heights-on : State → ℕ → ℕ → ℕ
