@@ -6,7 +6,7 @@ use Prim.Native.Nat.{ℕ}
 use Rattle.lists.specs.Lists.{allb}
 use Rattle.protocol.specs.Parts.{State, every-machine}
 use Rattle.protocol.specs.Crash.{is-normal, has-cover}
-use Rattle.layout.specs.Loops.{each}
+use Rattle.arrays.specs.Loops.{each}
 use Rattle.head.specs.Head.{held-of}
 use Rattle.store.specs.View.{view}
 

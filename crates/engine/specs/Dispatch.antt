@@ -18,11 +18,11 @@ use Rattle.frames.specs.Read.{read-as, meaning}
 use Rattle.frames.specs.ReadLaws.{frame-meaning}
 use Rattle.frames.specs.declared.Frame as code
 use Rattle.frames.specs.declared.Frame.the-variants.{Garbled, Job, Inject, Deliver, Work, Checkpoint, Crash, Restart, Show}
-use Rattle.state.specs.Outcome.{tried}
-use Rattle.machines.specs.Shown.{shown}
-use Rattle.delivery.specs.Frame.{delivered}
-use Rattle.sending.specs.Works.{worked-state}
-use Rattle.crashes.specs.Parts.{crash-tried}
+use Rattle.store.specs.View.{tried}
+use Rattle.settle.specs.Shown.{shown}
+use Rattle.deliver.specs.Frame.{delivered}
+use Rattle.sends.specs.Works.{worked-state}
+use Rattle.crash.specs.Whole.{crash-tried}
 use Rattle.engine.specs.Play.{settles, settle-after, play-job, play-inject, play-deliver, play-work, play-checkpoint, play-crash, play-restart, play-show}
 
 -- a frame, before machines settle

@@ -2,3 +2,4 @@
 pub mod LongLine
 pub mod Play
 pub mod Dispatch
+pub mod Stepped

@@ -1,20 +1,15 @@
 -- A frame judged, then machines that have caught up settle: this is the definitions' `play`.
 use mathlib.Core.Path.{_≡_, refl, sym, ap, _∙_}
-use mathlib.Core.Bool.{Bool, true, false, cond, not, _&&_}
+use mathlib.Core.Bool.{Bool, true, false, cond}
 use mathlib.Core.List.{List, [], _∷_}
 use mathlib.Core.Option.{Option, some, none}
 use Prim.Native.Nat.{ℕ, suc}
-use borrow.Author.Tests.{not-false}
-use Rattle.lists.specs.Lists.{allb}
-use Rattle.lists.specs.Tests.{either, and-l}
 use Rattle.lists.specs.Questions.{asks}
-use Rattle.protocol.specs.declared.Status.{Status}
 use Rattle.protocol.specs.declared.Answer.{Answer}
 use Rattle.protocol.specs.declared.Answer.the-variants.{Accepted, Shown, Lost, Refused}
 use Rattle.protocol.specs.declared.Entry.{Entry}
 use Rattle.protocol.specs.declared.Packet.{Packet}
 use Rattle.protocol.specs.Parts as parts
-use Rattle.protocol.specs.Parts.{every-machine}
 use Rattle.protocol.specs.Sending.{send}
 use Rattle.protocol.specs.Working.{next-entry, work-next}
 use Rattle.protocol.specs.Packets as packets
@@ -25,9 +20,7 @@ use Rattle.protocol.specs.Job.{begin}
 use Rattle.protocol.specs.Frames.{job, inject, deliver, work, checkpoint, crash, restart, show}
 use Rattle.protocol.specs.Questions as questions
 use Rattle.protocol.specs.Step.{Outcome, accept, crash-outcome, deliver-outcome, work-outcome, outcome, judged, play}
-use Rattle.state.specs.Outcome.{tried}
-use Rattle.machines.specs.Settle.{calm}
-use Rattle.machines.specs.SettleLaws.{settle-calm}
+use Rattle.store.specs.View.{tried}
 
 -- whoever is done catching up after an accepted frame is done
 unfoldable pub settles : Answer → Bool
@@ -46,22 +39,6 @@ settle-yes o e = rw e
 pub settle-no : (o : Outcome) → settles (o .answer) ≡ false → settle-after o ≡ o
 unfolding settle-after
 settle-no o e = rw e
-
--- the frame was accepted, and some machine is catching up
-unfoldable pub must-settle : Answer → (ℕ → Status) → Bool
-must-settle a status = settles a && not (allb (λ p. calm false (status p)) every-machine)
-
--- else nothing settles
-pub nothing-settles : (o : Outcome) → must-settle (o .answer) (o .state .status) ≡ false → settle-after o ≡ o
-unfolding must-settle
-nothing-settles o e =
-    either (settles (o .answer))
-    (λ f. settle-yes o f ∙ ap (λ s. record { state = s; answer = o .answer }) (sym (settle-calm (o .state) (not-false _ (rw f at e)))))
-    (λ f. settle-no o f)
-
-pub something-settles : (o : Outcome) → must-settle (o .answer) (o .state .status) ≡ true → settle-after o ≡ record { state = restarts.settle (o .state); answer = o .answer }
-unfolding must-settle
-something-settles o e = settle-yes o (and-l (settles (o .answer)) _ e)
 
 -- a refusal is left alone
 judged-map : (f : Outcome → Outcome) (s : parts.State) (o : Outcome) → ((n : ℕ) → f (record { state = s; answer = Refused n }) ≡ record { state = s; answer = Refused n })

@@ -12,7 +12,7 @@ use Rattle.protocol.specs.Job.{chares-of, job-in-range, job-of, has-machine, ha
 use Rattle.protocol.specs.Parts.{State, blank, start}
 use Rattle.protocol.specs.Questions.{job-questions}
 use Rattle.protocol.specs.Step.{Outcome, judged}
-use Rattle.layout.specs.JobLaws.{in-range}
+use Rattle.jobline.specs.JobLaws.{in-range}
 use Rattle.words.specs.Part.{put}
 use Rattle.words.specs.Zeros.{zeros}
 use Rattle.head.specs.Head as head

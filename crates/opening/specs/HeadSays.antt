@@ -11,10 +11,10 @@ use Rattle.arrays.specs.ArrayMap.{as-map, map-beyond}
 use Rattle.protocol.specs.declared.Status.the-variants.{Up}
 use Rattle.protocol.specs.Job.{machines-of, chares-of, job-in-range, job-of, has-machine}
 use Rattle.frames.specs.DigitLaws.{between-high}
-use Rattle.layout.specs.JobCode.{no-buddy-low, no-buddy-high, no-number-low, no-number-high}
-use Rattle.layout.specs.JobLaws.{in-range}
-use Rattle.layout.specs.JobView.{buddy-top, number-top, home-top, first-top, second-top}
-use Rattle.layout.specs.View.{number-of}
+use Rattle.jobline.specs.JobCode.{no-buddy-low, no-buddy-high, no-number-low, no-number-high}
+use Rattle.jobline.specs.JobLaws.{in-range}
+use Rattle.jobline.specs.Bounds.{buddy-top, number-top, home-top, first-top, second-top}
+use Rattle.jobline.specs.Passes.{number-of}
 use Rattle.words.specs.Fields.{bit-set}
 use Rattle.words.specs.Part.{part, part-length}
 use Rattle.words.specs.Zeros.{zero-at}

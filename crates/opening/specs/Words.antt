@@ -9,7 +9,7 @@ use lib.Dec.{eqb}
 use lib.ListN.{length, getD, set}
 use Rattle.protocol.specs.Job.{machines-of, job-of, has-machine}
 use Rattle.frames.specs.DigitLaws.{between-in, between-low, between-high}
-use Rattle.layout.specs.View.{number-of}
+use Rattle.jobline.specs.Passes.{number-of}
 use Rattle.words.specs.Fields.{bit}
 use Rattle.words.specs.Part.{part, put, part-length, part-put, part-before, part-behind}
 use Rattle.words.specs.Zeros.{zeros}

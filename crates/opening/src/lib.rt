@@ -48,12 +48,12 @@ fn word_of(line: &[u8], which: u8, k: u8) -> u64
     ensures { λ r. ⌜ r ≡ word-of (decoded (now (line .entry))) which k ⌝ }
 {
     if which == 3 {
-        return layout::buddy_of(line, k) as u64;
+        return jobline::buddy_of(line, k) as u64;
     }
     if which == 4 {
         return held_of(line, k);
     }
-    layout::number_of(line, which, k) as u64
+    jobline::number_of(line, which, k) as u64
 }
 
 fn write_part(a: &mut [u64], line: &[u8], which: u8)
@@ -147,7 +147,7 @@ pub fn job(s: &mut [u64], line: &[u8]) -> Answer
     if head::is_set(s) {
         return Answer::Refused(2);
     }
-    if !layout::job_in_range(line) {
+    if !jobline::job_in_range(line) {
         return Answer::Refused(3);
     }
     if head::is_lost(s) {

@@ -10,7 +10,7 @@ use lib.Seq.{drop-drop}
 use Rattle.lists.specs.Lists.{allb}
 use Rattle.protocol.specs.Parts.{State, on, is-catching-up, every-chare}
 use Rattle.protocol.specs.Restart.{has-caught-up, is-done}
-use Rattle.layout.specs.Loops.{each, allb-keep}
+use Rattle.arrays.specs.Loops.{each, allb-keep}
 use Rattle.words.specs.Part.{part}
 use Rattle.head.specs.Head.{target-of, job-of}
 use Rattle.head.specs.Kept.{part-front}

@@ -11,8 +11,11 @@ use Rattle.protocol.specs.Lines.{newline, line}
 use Rattle.protocol.specs.Step.{step}
 
 -- One more than the longest frame has digits: of a longer line the first bytes are kept, which are no frame either.
+abbrev pub LINE : ℕ
+LINE = 2047
+
 unfoldable pub line-room : ℕ
-line-room = 2047
+line-room = LINE
 
 -- the longest line that an answer prints, with its newline
 abbrev pub answer-room : ℕ
@@ -67,3 +70,7 @@ takes room r (b ∷ l) = cond (leb answer-room room) (suc (takes (room - length 
 -- there is room for what is printed at the end
 unfoldable pub finishes : ℕ → Reading → Bool
 finishes room r = is-empty (r .line) || leb answer-room room
+
+-- the state then: the last line is played where there is room for its answer
+unfoldable pub end-state : ℕ → Reading → parts.State
+end-state room r = cond (is-empty (r .line)) (r .state) (cond (leb answer-room room) (step (r .state) (r .line) .state) (r .state))

@@ -1,43 +1,69 @@
--- The structs of the code as a reader of the definitions, and what the exported functions yield.
-use mathlib.Core.Bool.{Bool, cond, _&&_}
+-- A store and a line under way as a reader of the definitions, and what the exported functions yield.
+use mathlib.Core.Bool.{Bool, true, cond, _&&_}
 use mathlib.Core.List.{List, [], _++_}
-use mathlib.Core.Path.{_≡_, subst}
+use mathlib.Core.Path.{_≡_, refl, sym, ap, subst, _∙_}
 use Prim.Native.Nat.{ℕ, _-_}
+use native.Mathlib.Omega.{arith}
 use lib.Dec.{eqb}
-use lib.ListN.{length, take, drop}
-use Rattle.state.specs.declared.State.{State}
-use Rattle.state.specs.View.{view}
-use Rattle.transcript.specs.Reading.{Reading, within, beginning, read-all, output, last-output, takes, finishes}
+use lib.ListN.{length, take, drop, replicate}
+use Rattle.store.specs.Places.{STORE}
+use Rattle.opening.specs.Zeros.{zeros-start}
+use Rattle.store.specs.View.{view}
+use Rattle.transcript.specs.Reading.{Reading, LINE, answer-room, within, beginning, read-all, output, last-output, takes, finishes, end-state}
+use Rattle.transcript.specs.Pieces.{read-append}
 use Rattle.transcript.specs.Feeding.{Fed-so-far}
-use Rattle.transcript.specs.declared.Reader.{Reader}
+use Rattle.transcript.specs.Demand.{After, after, finished, finished-state, ended-state, enough-end}
 use Rattle.transcript.specs.declared.Fed.{Fed}
 use Rattle.transcript.specs.declared.Ended.{Ended}
+use Rattle.protocol.specs.Parts as parts
+use Rattle.protocol.specs.Lines.{lines}
 use Rattle.protocol.specs.Step.{answers}
 
-unfoldable pub reading : Reader → Reading
-reading r = within (view (r .state)) (take (r .len) (r .line))
+-- a store that has read n bytes of the line under way
+unfoldable pub reading : List ℕ → List ℕ → ℕ → Reading
+reading s line n = within (view s) (take n line)
+
+-- a store of zeros that has read no byte
+pub zeros-read : reading (replicate STORE 0) (replicate LINE 0) 0 ≡ beginning
+unfolding reading beginning
+zeros-read = ap (λ s. within s []) zeros-start
 
 -- What feeding yields: bytes are taken while there is room for an answer; reader and output are those of the bytes taken; the rest of
 -- the buffer stays.
-pub record Feeding (r : Reading) (input room : List ℕ) (f : Fed) (out : List ℕ) : Type 0 where
+pub record Feeding (r : Reading) (input room : List ℕ) (f : Fed) (s line out : List ℕ) : Type 0 where
   pub taken : f .taken ≡ takes (length room) r input
-  pub reader : reading (f .reader) ≡ read-all r (take (f .taken) input)
+  pub reader : reading s line (f .len) ≡ read-all r (take (f .taken) input)
   pub written : f .written ≡ length (output r (take (f .taken) input))
   pub bytes : out ≡ output r (take (f .taken) input) ++ drop (f .written) room
+  -- whatever pieces came before: the state of the finished lines, and demand 3 of it
+  pub demand : (before : List ℕ) → r ≡ read-all beginning before → After (finished (before ++ take (f .taken) input)) (view s)
 
-pub fed : (q r : Reading) → q ≡ r → (input room : List ℕ) (s : State) (len : ℕ) (line : List ℕ) (t w : ℕ) (out : List ℕ) → Fed-so-far q input room (within (view s) (take len line)) t w out → t ≡ takes (length room) q input
-    → Feeding r input room (record { reader = record { state = s; len = len; line = line }; taken = t; written = w }) out
+fed-demand : (r now : Reading) (piece : List ℕ) → now ≡ read-all r piece → (before : List ℕ) → r ≡ read-all beginning before → After (finished (before ++ piece)) (now .state)
+fed-demand r now piece d before e =
+    let g : now ≡ read-all beginning (before ++ piece) = d ∙ ap (λ q. read-all q piece) e ∙ sym (read-append beginning before piece) in
+    after (finished (before ++ piece)) (now .state) (ap (λ (x : Reading). x .state) g ∙ finished-state (before ++ piece))
+
+pub fed : (q r : Reading) → q ≡ r → (input room s : List ℕ) (len : ℕ) (line : List ℕ) (t w : ℕ) (out : List ℕ) → Fed-so-far q input room (within (view s) (take len line)) t w out → t ≡ takes (length room) q input
+    → Feeding r input room (record { len = len; taken = t; written = w }) s line out
 unfolding reading
 fed q r e input room s len line t w out inv f =
-    subst (λ r. Feeding r input room (record { reader = record { state = s; len = len; line = line }; taken = t; written = w }) out) e
-    (record { taken = f; reader = inv .reader; written = inv .written; bytes = inv .bytes })
+    subst (λ r. Feeding r input room (record { len = len; taken = t; written = w }) s line out) e
+    (record { taken = f; reader = inv .reader; written = inv .written; bytes = inv .bytes; demand = unfold within in fed-demand q (within (view s) (take len line)) (take t input) (inv .reader) })
+
+pub ended-demand : (r : Reading) (room : ℕ) (s : parts.State) (ok : Bool) → ok ≡ finishes room r → s ≡ end-state room r → ok ≡ true → (before : List ℕ) → r ≡ read-all beginning before → After (lines before) s
+unfolding finishes
+ended-demand r room s ok f e d before g =
+    after (lines before) s (e ∙ enough-end room r (sym f ∙ d) ∙ ap (end-state answer-room) g ∙ ended-state answer-room (omega arith) before)
 
 -- what is printed at the end, where there is room for it; else nothing
 unfoldable pub end-output : ℕ → Reading → List ℕ
 end-output room r = cond (finishes room r) (last-output r) []
 
-pub record Ending (r : Reading) (room : List ℕ) (e : Ended) (out : List ℕ) : Type 0 where
+pub record Ending (r : Reading) (room : List ℕ) (e : Ended) (s out : List ℕ) : Type 0 where
   pub ok : e .ok ≡ finishes (length room) r
+  pub state : view s ≡ end-state (length room) r
+  -- whatever pieces came before: the state of all lines, and demand 3 of it
+  pub demand : e .ok ≡ true → (before : List ℕ) → r ≡ read-all beginning before → After (lines before) (view s)
   pub written : e .written ≡ length (end-output (length room) r)
   pub bytes : out ≡ end-output (length room) r ++ drop (e .written) room
 

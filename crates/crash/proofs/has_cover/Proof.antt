@@ -4,7 +4,7 @@ use Prim.Native.Nat.{_-_, _≤_}
 use native.Mathlib.Omega.{arith}
 use borrow.Author.Tests.{not-true, not-false}
 use borrow.Author.Needs.{needs}
-use Rattle.layout.specs.Loops.{each, each-hit, each-miss, each-end}
+use Rattle.arrays.specs.Loops.{each, each-hit, each-miss, each-end}
 use Rattle.protocol.specs.Crash.{is-normal}
 use Rattle.store.specs.View.{view}
 use Rattle.crash.specs.Cover.{all-normal, each-machine, no-cover, cover-held}

@@ -5,7 +5,7 @@ use native.Mathlib.Omega.{arith}
 use borrow.Author.Needs.{needs}
 use borrow.Author.Tests.{not-true, not-false}
 use Rattle.protocol.specs.Restart.{is-done}
-use Rattle.layout.specs.Loops.{each, each-hit, each-miss, each-end}
+use Rattle.arrays.specs.Loops.{each, each-hit, each-miss, each-end}
 use Rattle.store.specs.View.{view}
 use Rattle.settle.specs.Done.{passes, not-done, each-passes}
 use Rattle.settle.proofs.is_done.Statement.{statement}

@@ -6,18 +6,18 @@ use borrow.Author.Needs.{needs}
 use lib.ListN.{length, take, drop, length-take}
 use Rattle.transcript.specs.Ends.{fed-fits, ended-fits, whole-short, whole-long}
 use Rattle.transcript.specs.Reading.{beginning}
-use Rattle.transcript.specs.View.{Feeding}
+use Rattle.transcript.specs.View.{Feeding, zeros-read}
 use Rattle.transcript.proofs.whole.Statement.{statement}
 use Rattle.transcript.proofs.whole.Tie as tie
 
-fed : (c : tie.After-feed) → Feeding beginning (c .before .before .before .before .before .args .input .now) (c .before .before .before .before .before .args .out .now) (c .feed .result) (c .feed .last .1 .1 .0)
-fed c = subst (λ r. Feeding r (c .before .before .before .before .before .args .input .now) (c .before .before .before .before .before .args .out .now) (c .feed .result) (c .feed .last .1 .1 .0)) (c .before .before .begin .ensures) (c .feed .ensures)
+abbrev start : tie.After-feed → tie.Start
+start c = c .before .before .before .before .before .before
 
-fed-within : (c : tie.After-feed) → c .feed .result .written ≤ length (c .feed .last .1 .1 .0)
-fed-within c = let same = c .feed .kept .1 .1 .0 in omega (arith, same, fed-fits _ _ _ _ _ (fed c) same)
+fed : (c : tie.After-feed) → Feeding beginning (start c .args .input .now) (start c .args .out .now) (c .feed .result) (c .feed .last .0) (c .feed .last .1 .0) (c .feed .last .1 .1 .1 .1 .0)
+fed c = subst (λ r. Feeding r (start c .args .input .now) (start c .args .out .now) (c .feed .result) (c .feed .last .0) (c .feed .last .1 .0) (c .feed .last .1 .1 .1 .1 .0)) zeros-read (c .feed .ensures)
 
-begin-requires : tie.Need-begin-requires
-begin-requires c κs = search needs
+fed-within : (c : tie.After-feed) → c .feed .result .written ≤ length (c .feed .last .1 .1 .1 .1 .0)
+fed-within c = let same = c .feed .kept .1 .1 .1 .1 .0 in omega (arith, same, fed-fits _ _ _ _ _ _ _ (fed c) same)
 
 feed-requires : tie.Need-feed-requires
 feed-requires c κs = search needs
@@ -26,13 +26,13 @@ same-length : tie.Need-same-length
 same-length c = search needs
 
 returns : tie.Need-returns
-returns c = whole-short _ _ _ _ (fed (c .before .before .before .before)) (c .if1 .taken)
+returns c = whole-short _ _ _ _ _ _ (fed (c .before .before .before .before)) (c .if1 .taken)
 
 sub-finish : tie.Need-sub-finish
-sub-finish c = fed-within (c .before .before .before .before .before)
+sub-finish c = fed-within (c .before .before .before .before .before .before)
 
 part-finish-start : tie.Need-part-finish-start
-part-finish-start c = fed-within (c .before .before .before .before .before)
+part-finish-start c = fed-within (c .before .before .before .before .before .before)
 
 part-finish-end : tie.Need-part-finish-end
 part-finish-end c = search needs
@@ -40,26 +40,29 @@ part-finish-end c = search needs
 finish-requires : tie.Need-finish-requires
 finish-requires c κs = search needs
 
-add-t10 : tie.Need-add-t10
-add-t10 c =
-    let f = c .before .before .before .before .before .before .before .before .before .before in
+add-t12 : tie.Need-add-t12
+add-t12 c =
     let e = c .before .before .before in
+    let f = e .before .before .before .before .before .before .before .before in
     let w = f .feed .result .written in
-    let out = f .feed .last .1 .1 .0 in
-    let g : e .finish .result .written ≤ length (take (length out - w) (drop w out)) = ended-fits _ _ _ _ (e .finish .ensures) (e .finish .kept .1 .0) in
-    omega (arith, g, fed-within f, length-take (length out - w) (drop w out), f .feed .kept .1 .1 .0, c .before .before .before .before .before .before .before .before .before .before .before .before .before .before .before .good .1 .0)
+    let out = f .feed .last .1 .1 .1 .1 .0 in
+    let g : e .finish .result .written ≤ length (take (length out - w) (drop w out)) = ended-fits _ _ _ _ _ (e .finish .ensures) (e .finish .kept .1 .1 .1 .0) in
+    omega (arith, g, fed-within f, length-take (length out - w) (drop w out), f .feed .kept .1 .1 .1 .1 .0, start f .good)
 
 same-length-2 : tie.Need-same-length-2
 same-length-2 c = search needs
 
 returns-2 : tie.Need-returns-2
-returns-2 c = let f = c .before .before .before .before .before .before .before .before .before .before in whole-long _ _ _ _ (fed f) (c .before .before .before .before .before .before .if1 .left) (fed-within f) _ _ (c .before .before .before .finish .ensures)
+returns-2 c =
+    let e = c .before .before .before in
+    let x = e .before .before .before .before in
+    let f = x .before .before .before .before in
+    whole-long _ _ _ _ _ _ (fed f) (x .if1 .left) (fed-within f) _ _ _ (e .finish .ensures)
 
 pub whole-spec : {M : Type 1} → statement M
 whole-spec =
     tie.close
     (tie.spec
-    begin-requires
     feed-requires
     same-length
     returns
@@ -67,6 +70,6 @@ whole-spec =
     part-finish-start
     part-finish-end
     finish-requires
-    add-t10
+    add-t12
     same-length-2
     returns-2)

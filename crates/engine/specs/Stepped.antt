@@ -1,0 +1,31 @@
+-- A frame acted in place, then settled: the definitions' step.
+use mathlib.Core.Path.{_≡_, sym, ap, _∙_}
+use mathlib.Core.Bool.{true, false}
+use mathlib.Core.List.{List}
+use Prim.Native.Nat.{ℕ}
+use native.Mathlib.Omega.{arith}
+use Rattle.protocol.specs.declared.Answer.{Answer}
+use Rattle.protocol.specs.declared.Answer.the-variants.{Refused}
+use Rattle.protocol.specs.Restart.{settle}
+use Rattle.protocol.specs.Frames.{Line, frame}
+use Rattle.protocol.specs.Step.{step}
+use Rattle.frames.specs.Read.{read-as}
+use Rattle.frames.specs.declared.Frame.{Frame}
+use Rattle.store.specs.View.{view, outcome, Framed}
+use Rattle.engine.specs.Play.{settles, settle-after, settle-yes, settle-no}
+use Rattle.engine.specs.Dispatch.{acted, steps}
+
+module _ (xs ys : List ℕ) (l : Line) (f : Frame) (a : Answer) (read : f ≡ read-as (frame l)) (acts : Framed xs ys a (acted (view xs) l f)) where
+  settled : settle-after (outcome ys a) ≡ step (view xs) l
+  settled = ap settle-after (acts .gives) ∙ sym (steps (view xs) l f read)
+
+  pub stepped : settles a ≡ true → (zs : List ℕ) → view zs ≡ settle (view ys) → Framed xs zs a (step (view xs) l)
+  unfolding outcome settles
+  stepped e zs d = record {
+    gives = ap (λ s. record { state = s; answer = a }) d ∙ sym (settle-yes (outcome ys a) e) ∙ settled;
+    stays = λ n q. absurd (let g = rw q at e in let z : _≡_ {A = ℕ} 0 1 = cc in omega arith);
+  }
+
+  pub left : settles a ≡ false → Framed xs ys a (step (view xs) l)
+  unfolding outcome
+  left e = record { gives = sym (settle-no (outcome ys a) e) ∙ settled; stays = acts .stays }

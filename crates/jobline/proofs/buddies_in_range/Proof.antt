@@ -1,0 +1,59 @@
+-- `jobline::buddies_in_range` meets its contract: those before p pass, so the answer is that for the rest.
+use mathlib.Core.Path.{_≡_, sym, _∙_}
+use Prim.Native.Nat.{_≤_, _-_}
+use native.Mathlib.Omega.{arith}
+use borrow.Author.Needs.{needs}
+use borrow.Author.Tests.{not-true, not-false}
+use Rattle.frames.specs.Decode.{decoded}
+use Rattle.jobline.specs.JobCode.{each-buddy}
+use Rattle.arrays.specs.Loops.{each, each-hit, each-miss, each-end}
+use Rattle.jobline.specs.Passes.{buddies-in-range, buddy-passes}
+use Rattle.jobline.proofs.buddies_in_range.Statement.{statement}
+use Rattle.jobline.proofs.buddies_in_range.Tie as tie
+
+abbrev Inv-loop : tie.InvT-loop
+Inv-loop line p₀ p = (1 ≤ p) × (p ≤ 7) × (buddies-in-range (decoded line) ≡ each (buddy-passes (decoded line)) (7 - p) p)
+
+abbrev μ-loop : tie.MeasureT-loop
+μ-loop line p₀ p = 7 - p
+
+loop-holds : tie.Need-loop-holds Inv-loop μ-loop
+loop-holds c = (search needs, search needs, each-buddy _)
+
+buddy-passes-requires : tie.Need-buddy-passes-requires Inv-loop μ-loop
+buddy-passes-requires c κs = search needs
+
+returns : tie.Need-returns Inv-loop μ-loop
+returns c =
+    let l = c .before .before .before .loop in
+    each-miss _ 7 (l .p) _ (l .inv .2) (omega arith) (sym (c .before .buddy-passes .ensures) ∙ not-true _ (c .if1 .taken))
+
+add-p : tie.Need-add-p Inv-loop μ-loop
+add-p c = search needs
+
+loop-less : tie.Need-loop-less Inv-loop μ-loop
+loop-less c = search needs
+
+loop-again : tie.Need-loop-again Inv-loop μ-loop
+loop-again c =
+    let l = c .before .before .before .loop in
+    (search needs, search needs, each-hit _ 7 (l .p) _ (l .inv .2) (omega arith) (sym (c .before .buddy-passes .ensures) ∙ not-false _ (c .if1 .left)))
+
+returns-2 : tie.Need-returns-2 Inv-loop μ-loop
+returns-2 c =
+    let l = c .before .loop in
+    each-end _ 7 (l .p) _ (l .inv .2) (omega arith)
+
+pub buddies-in-range-spec : {M : Type 1} → statement M
+buddies-in-range-spec =
+    tie.close
+    (tie.spec
+    Inv-loop
+    μ-loop
+    loop-holds
+    buddy-passes-requires
+    returns
+    add-p
+    loop-less
+    loop-again
+    returns-2)

@@ -1,0 +1,59 @@
+-- `jobline::chares_in_range` meets its contract: those before c pass, so the answer is that for the rest.
+use mathlib.Core.Path.{_≡_, sym, _∙_}
+use Prim.Native.Nat.{_≤_, _-_}
+use native.Mathlib.Omega.{arith}
+use borrow.Author.Needs.{needs}
+use borrow.Author.Tests.{not-true, not-false}
+use Rattle.frames.specs.Decode.{decoded}
+use Rattle.jobline.specs.JobCode.{each-chare}
+use Rattle.arrays.specs.Loops.{each, each-hit, each-miss, each-end}
+use Rattle.jobline.specs.Passes.{chares-in-range, chare-passes}
+use Rattle.jobline.proofs.chares_in_range.Statement.{statement}
+use Rattle.jobline.proofs.chares_in_range.Tie as tie
+
+abbrev Inv-loop : tie.InvT-loop
+Inv-loop line c₀ c = (1 ≤ c) × (c ≤ 13) × (chares-in-range (decoded line) ≡ each (chare-passes (decoded line)) (13 - c) c)
+
+abbrev μ-loop : tie.MeasureT-loop
+μ-loop line c₀ c = 13 - c
+
+loop-holds : tie.Need-loop-holds Inv-loop μ-loop
+loop-holds c = (search needs, search needs, each-chare _)
+
+chare-passes-requires : tie.Need-chare-passes-requires Inv-loop μ-loop
+chare-passes-requires c κs = search needs
+
+returns : tie.Need-returns Inv-loop μ-loop
+returns c =
+    let l = c .before .before .before .loop in
+    each-miss _ 13 (l .c) _ (l .inv .2) (omega arith) (sym (c .before .chare-passes .ensures) ∙ not-true _ (c .if1 .taken))
+
+add-c : tie.Need-add-c Inv-loop μ-loop
+add-c c = search needs
+
+loop-less : tie.Need-loop-less Inv-loop μ-loop
+loop-less c = search needs
+
+loop-again : tie.Need-loop-again Inv-loop μ-loop
+loop-again c =
+    let l = c .before .before .before .loop in
+    (search needs, search needs, each-hit _ 13 (l .c) _ (l .inv .2) (omega arith) (sym (c .before .chare-passes .ensures) ∙ not-false _ (c .if1 .left)))
+
+returns-2 : tie.Need-returns-2 Inv-loop μ-loop
+returns-2 c =
+    let l = c .before .loop in
+    each-end _ 13 (l .c) _ (l .inv .2) (omega arith)
+
+pub chares-in-range-spec : {M : Type 1} → statement M
+chares-in-range-spec =
+    tie.close
+    (tie.spec
+    Inv-loop
+    μ-loop
+    loop-holds
+    chare-passes-requires
+    returns
+    add-c
+    loop-less
+    loop-again
+    returns-2)

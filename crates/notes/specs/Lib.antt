@@ -1,2 +1,0 @@
--- What the contracts of notes say.
-pub mod View

@@ -1,4 +1,0 @@
--- What the contracts of table say.
-pub mod Table
-pub mod TableLaws
-pub mod EnterLaws

@@ -1,0 +1,210 @@
+-- `feed_on`: the invariant is that what was taken so far is read, and its answers written.
+use mathlib.Core.Path.{_≡_, ap, _∙_}
+use Prim.Native.Nat.{_+_, _-_, _≤_, _<_}
+use native.Mathlib.Omega.{arith}
+use borrow.Author.Needs.{needs}
+use lib.ListN.{length, take, drop, length-drop}
+use Rattle.store.specs.Places.{STORE}
+use Rattle.store.specs.View.{view, outcome}
+use Rattle.transcript.specs.Reading.{LINE, within}
+use Rattle.transcript.specs.LineWise.{line-end, line-end-le, line-end-rest}
+use Rattle.transcript.specs.Copies.{take-min}
+use Rattle.transcript.specs.Printed.{printed-fits}
+use Rattle.transcript.specs.Feeding.{Fed-so-far, nothing-yet, fed-turn, fed-stop, at-end, no-room}
+use Rattle.transcript.specs.View.{reading, fed}
+use Rattle.transcript.proofs.feed_on.Statement.{statement}
+use Rattle.transcript.proofs.feed_on.Tie as tie
+
+abbrev Inv-loop : tie.InvT-loop
+Inv-loop s₀ line₀ n input out₀ len₀ taken₀ written₀ s line out len taken written =
+    (length s ≡ STORE) × (length line ≡ LINE) × (len ≤ LINE) × (length out ≡ length out₀)
+    × Fed-so-far (within (view s₀) (take len₀ line₀)) input out₀ (within (view s) (take len line)) taken written out
+
+abbrev μ-loop : tie.MeasureT-loop
+μ-loop s₀ line₀ n input out₀ len₀ taken₀ written₀ s line out len taken written = length input - taken
+
+abbrev at : {X : Type 1} → (tie.InvT-loop → tie.MeasureT-loop → X) → X
+at f = f Inv-loop μ-loop
+
+-- ---- the places of a turn
+abbrev start : at tie.At-loop → at tie.Start
+start c = c .before .before .before .before .before .before
+
+roomy : (c : at tie.Else1) → 15 ≤ length (start (c .before) .args .out .now) - c .before .loop .written
+roomy c = omega (arith, c .if1 .left, c .before .loop .inv .3)
+
+opened : (c : at tie.At-loop) → let a = start c .args in within (view (a .s .now)) (take (c .before .least .result) (a .line .now)) ≡ reading (a .s .now) (a .line .now) (a .n)
+unfolding reading
+opened c = let a = start c .args in ap (within (view (a .s .now))) (ap (λ k. take k (a .line .now)) (c .before .least .ensures) ∙ take-min (a .n) (a .line .now))
+
+-- the next newline, or the end of the input
+found : (c : at tie.After-line-end) → let p = c .before .before .before in c .line-end .result ≡ line-end (drop (p .loop .taken) (start p .args .input .now))
+found c = let p = c .before .before .before in line-end-rest (p .loop .taken) (start p .args .input .now) (c .line-end .result) (c .line-end .ensures)
+
+there : (c : at tie.After-line-end) → let p = c .before .before .before in p .loop .taken + c .line-end .result ≤ length (start p .args .input .now)
+there c =
+    let p = c .before .before .before in
+    let l = p .loop in
+    let i = start p .args .input .now in
+    omega (arith, found c, line-end-le (drop (l .taken) i), length-drop (l .taken) i, l .inv .4 .within-input)
+
+-- the turn that ends at c
+abbrev turn : at tie.After-slice-known7 → at tie.Else2
+turn c = c .before .before .before .before .before .before .before .before .before .before .before .before
+
+ends : (c : at tie.Else2) → let p = c .before .before .before .before in p .loop .taken + c .before .line-end .result < length (start p .args .input .now)
+ends c = omega (arith, there (c .before), c .if2 .left)
+
+answer-fits : (c : at tie.After-put) → c .put .result ≤ 15
+answer-fits c = omega (arith, c .put .ensures .0, printed-fits (c .before .before .before .before .before .before .play .result))
+
+-- ---- what is asked
+least-requires : at tie.Need-least-requires
+least-requires c κs = search needs
+
+loop-holds : at tie.Need-loop-holds
+loop-holds c = (search needs, search needs, search needs, search needs, nothing-yet _ _ _)
+
+sub-if1 : at tie.Need-sub-if1
+sub-if1 c = search needs
+
+same-length : at tie.Need-same-length
+same-length c = search needs
+
+same-length-2 : at tie.Need-same-length-2
+same-length-2 c = search needs
+
+same-length-3 : at tie.Need-same-length-3
+same-length-3 c = search needs
+
+returns : at tie.Need-returns
+returns c =
+    let l = c .before .loop in
+    fed _ _ (opened (c .before)) _ _ _ _ _ _ _ _ (l .inv .4) (no-room _ _ _ _ _ _ _ (l .inv .4) (omega (arith, c .if1 .taken, l .inv .3)))
+
+sub-line-end : at tie.Need-sub-line-end
+sub-line-end c = search needs
+
+part-line-end-start : at tie.Need-part-line-end-start
+part-line-end-start c = search needs
+
+part-line-end-end : at tie.Need-part-line-end-end
+part-line-end-end c = search needs
+
+line-end-requires : at tie.Need-line-end-requires
+line-end-requires c κs = search needs
+
+add-end : at tie.Need-add-end
+add-end c = omega (arith, there c, start (c .before .before .before) .good)
+
+sub-keep : at tie.Need-sub-keep
+sub-keep c = search needs
+
+part-keep-start : at tie.Need-part-keep-start
+part-keep-start c = search needs
+
+part-keep-end : at tie.Need-part-keep-end
+part-keep-end c = there (c .before .before)
+
+keep-requires : at tie.Need-keep-requires
+keep-requires c κs = search needs
+
+same-length-4 : at tie.Need-same-length-4
+same-length-4 c = search needs
+
+same-length-5 : at tie.Need-same-length-5
+same-length-5 c = search needs
+
+same-length-6 : at tie.Need-same-length-6
+same-length-6 c = search needs
+
+returns-2 : at tie.Need-returns-2
+returns-2 c =
+    let k = c .before .before in
+    let x = k .before .before .before in
+    let e = x .before in
+    let p = e .before .before .before in
+    let l = p .loop in
+    let inv = fed-stop _ _ _ _ _ _ _ _ (l .inv .4) (roomy (e .before .before)) _ (found e) (x .if2 .taken) _ _ (l .inv .1) (k .keep .ensures .1) in
+    fed _ _ (opened p) _ _ _ _ _ _ _ _ inv (at-end _ _ _ _ _ _ _ inv (x .if2 .taken))
+
+sub-play : at tie.Need-sub-play
+sub-play c = search needs
+
+part-play-start : at tie.Need-part-play-start
+part-play-start c = search needs
+
+part-play-end : at tie.Need-part-play-end
+part-play-end c = there (c .before .before .before)
+
+play-requires : at tie.Need-play-requires
+play-requires c κs = search needs
+
+put-requires : at tie.Need-put-requires
+put-requires c κs = search needs
+
+add-written : at tie.Need-add-written
+add-written c =
+    let x = turn c in
+    let p = x .before .before .before .before in
+    omega (arith, roomy (x .before .before .before), answer-fits (c .before .before), p .loop .inv .3, start p .good)
+
+add-taken : at tie.Need-add-taken
+add-taken c =
+    let x = turn c in
+    omega (arith, ends x, start (x .before .before .before .before) .good)
+
+loop-less : at tie.Need-loop-less
+loop-less c = omega (arith, ends (turn c))
+
+loop-again : at tie.Need-loop-again
+unfolding outcome
+loop-again c =
+    let u = c .before .before in
+    let x = turn c in
+    let g = u .before .before .before .before .before .before in
+    let e = x .before in
+    let p = e .before .before .before in
+    let l = p .loop in (
+      g .play .kept .0 ∙ l .inv .0,
+      g .play .kept .1 .0 ∙ l .inv .1,
+      omega arith,
+      u .put .kept .0 ∙ l .inv .3,
+      fed-turn _ _ _ _ _ _ _ _ (l .inv .4) (roomy (e .before .before)) _ (found e) (ends x) _ (g .play .ensures) _ _ (u .put .ensures .0) (u .put .ensures .1),
+    )
+
+pub feed-on-spec : {M : Type 1} → statement M
+feed-on-spec =
+    tie.close
+    (tie.spec
+    Inv-loop
+    μ-loop
+    least-requires
+    loop-holds
+    sub-if1
+    same-length
+    same-length-2
+    same-length-3
+    returns
+    sub-line-end
+    part-line-end-start
+    part-line-end-end
+    line-end-requires
+    add-end
+    sub-keep
+    part-keep-start
+    part-keep-end
+    keep-requires
+    same-length-4
+    same-length-5
+    same-length-6
+    returns-2
+    sub-play
+    part-play-start
+    part-play-end
+    play-requires
+    put-requires
+    add-written
+    add-taken
+    loop-less
+    loop-again)
