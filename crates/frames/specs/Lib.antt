@@ -4,3 +4,4 @@ pub mod DigitLaws
 pub mod DecodeLaws
 pub mod Read
 pub mod ReadLaws
+pub mod Range

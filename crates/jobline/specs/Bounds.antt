@@ -9,7 +9,8 @@ use lib.Dec.{eqb, leb}
 use Rattle.lists.specs.Tests.{split, and-l, and-r}
 use Rattle.protocol.specs.Frames.{between}
 use Rattle.protocol.specs.Job.{machines-of, chares-of, buddy-byte, chare-byte, buddy-in-range, chare-in-range, job-of, has-machine, has-chare, previous-machine}
-use Rattle.jobline.specs.JobLaws.{Between, between-true, InRange}
+use Rattle.frames.specs.Range.{Between, between-true}
+use Rattle.jobline.specs.JobLaws.{InRange}
 use Rattle.jobline.specs.Passes.{number-of}
 
 module _ (b : List ℕ) (r : InRange b) where

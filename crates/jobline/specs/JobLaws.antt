@@ -10,6 +10,7 @@ use lib.Dec.{leb}
 use Rattle.lists.specs.Lists.{_∈_, allb, allb-true, keep, mem-keep}
 use Rattle.lists.specs.Tests.{lt?, and-l, and-r}
 use Rattle.protocol.specs.Frames.{between}
+use Rattle.frames.specs.Range.{Between, between-true}
 use Rattle.protocol.specs.Job.{machines-of, chares-of, buddy-in-range, chare-in-range, job-in-range}
 use Rattle.protocol.specs.Parts.{every-machine, every-chare}
 
@@ -35,14 +36,6 @@ unfolding every-chare from-one
 mem-chare c h r = mem-from 12 1 c h (omega arith)
 
 -- ---- what the range says
-pub record Between (a b x : ℕ) : Type 0 where
-  pub low : a ≤ x
-  pub high : x ≤ b
-
-pub between-true : (a b x : ℕ) → between a b x ≡ true → Between a b x
-unfolding between
-between-true a b x e = record { low = leb-true a x (and-l (leb a x) (leb x b) e); high = leb-true x b (and-r (leb a x) (leb x b) e) }
-
 pub record InRange (b : List ℕ) : Type 0 where
   pub machines : Between 2 6 (machines-of b)
   pub chares : Between 1 12 (chares-of b)

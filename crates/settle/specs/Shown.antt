@@ -10,7 +10,7 @@ use Rattle.protocol.specs.declared.Answer.the-variants.{Shown, Refused}
 use Rattle.protocol.specs.Parts.{State, up}
 use Rattle.protocol.specs.Questions.{show-questions, is-chare}
 use Rattle.protocol.specs.Step.{Outcome, judged}
-use Rattle.jobline.specs.JobLaws.{between-true}
+use Rattle.frames.specs.Range.{between-true}
 use Rattle.words.specs.Part.{part}
 use Rattle.head.specs.Head.{job-of, lost-of, status-of, runs, chare-asked}
 use Rattle.head.specs.HeadLaws.{chares-top}

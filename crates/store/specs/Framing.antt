@@ -5,15 +5,13 @@ use mathlib.Core.Logic.{_≢_}
 use mathlib.Core.List.{List, [], _∷_}
 use Prim.Native.Nat.{ℕ, _≤_}
 use native.Mathlib.Omega.{arith}
-use borrow.Author.Tests.{leb-true}
-use lib.Dec.{leb}
-use Rattle.lists.specs.Tests.{and-l, and-r}
 use Rattle.lists.specs.Questions.{asks, yes-asks, first-no, first-no-yes, asks-first}
 use Rattle.protocol.specs.declared.Answer.{Answer}
 use Rattle.protocol.specs.declared.Answer.the-variants.{Accepted, Refused}
 use Rattle.protocol.specs.Frames.{between}
 use Rattle.protocol.specs.Parts.{State}
 use Rattle.protocol.specs.Step.{Outcome, judged}
+use Rattle.frames.specs.Range.{between-true}
 use Rattle.head.specs.Head.{job-of}
 use Rattle.head.specs.HeadLaws.{machines-top}
 use Rattle.store.specs.View.{view, outcome, tried, Framed}
@@ -45,9 +43,7 @@ module _ (xs : List ℕ) (l : List Bool) (n : ℕ) (e : n ≡ first-no 2 l) wher
 
 -- a machine that passed is one of six
 pub machine-in : (xs : List ℕ) (p n : ℕ) (a b c d : Bool) → n ≡ first-no 2 (a ∷ b ∷ c ∷ d ∷ []) → b ≡ between 1 (job-of xs .machines) p → n ≡ 0 → (1 ≤ p) × (p ≤ 6)
-unfolding between
 machine-in xs p n a b c d e r z =
     let y : between 1 (job-of xs .machines) p ≡ true = sym r ∙ first-no-yes 1 (a ∷ b ∷ c ∷ d ∷ []) (sym e ∙ z) .1 .0 in
-    let low = leb-true 1 p (and-l (leb 1 p) (leb p (job-of xs .machines)) y) in
-    let high = leb-true p (job-of xs .machines) (and-r (leb 1 p) (leb p (job-of xs .machines)) y) in
-    (omega arith, omega (arith, machines-top xs))
+    let h = between-true 1 (job-of xs .machines) p y in
+    (h .low, omega (arith, h .high, machines-top xs))
