@@ -1,1 +1,2 @@
-// Frame 15 in place.
+// Frame 15: tables and wire are built beside the store; then, if both fit, the store is changed.
+mod table;

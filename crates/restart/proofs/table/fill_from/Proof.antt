@@ -1,0 +1,96 @@
+use Rattle.restart.specs.Sources.{logged-fits}
+use Rattle.restart.specs.Gather.{next, past}
+use mathlib.Core.Path.{_≡_, refl, sym, _∙_}
+use Prim.Native.Nat.{_-_, _≤_}
+use native.Mathlib.Omega.{arith}
+use lib.ListN.{length, drop}
+use Rattle.lists.specs.Lists.{gather}
+use Rattle.tickets.specs.Table.{entries}
+use Rattle.memory.specs.Places.{ROW}
+use Rattle.logs.specs.Log.{entries as messages, logged-of}
+use Rattle.restart.specs.Fills.{filling, filled-on, filled-skip, filled-end}
+use borrow.Author.Needs.{needs}
+use Rattle.restart.proofs.table.fill_from.Statement.{statement}
+use Rattle.restart.proofs.table.fill_from.Tie as tie
+
+abbrev Inv-loop : tie.InvT-loop
+Inv-loop row₀ l c h n i₀ row i = (i ≤ n) × (length row ≡ length row₀) × (filling c h (entries row₀) (messages l) ≡ filling c h (entries row) (drop i (messages l)))
+
+abbrev μ-loop : tie.MeasureT-loop
+μ-loop row₀ l c h n i₀ row i = n - i
+
+count-requires : tie.Need-count-requires Inv-loop μ-loop
+count-requires c κs = search needs
+
+loop-holds : tie.Need-loop-holds Inv-loop μ-loop
+loop-holds c = (search needs, refl, refl)
+
+at-requires : tie.Need-at-requires Inv-loop μ-loop
+at-requires c κs = search needs
+
+add-i : tie.Need-add-i Inv-loop μ-loop
+add-i c = search needs
+
+is-above-requires : tie.Need-is-above-requires Inv-loop μ-loop
+is-above-requires c κs = search needs
+
+fill-requires : tie.Need-fill-requires Inv-loop μ-loop
+fill-requires c κs = search needs
+
+loop-less : tie.Need-loop-less Inv-loop μ-loop
+loop-less c = search needs
+
+loop-again : tie.Need-loop-again Inv-loop μ-loop
+loop-again c =
+    let a = c .before .before .before .before .before .before .before .before .before .before .before .before .before .args in
+    let l = c .before .before .before .before .before .before .before .before .before .loop in
+    let x = c .before .before .before .before .before .before .before .at in
+    let e = c .before .before .fill in (
+      search needs,
+      search needs,
+      filled-on (a .c) (a .h) _ (entries (l .row)) _ (l .inv .2)
+      (x .result) _ (next (messages (a .l .now)) (l .i) (x .result) (logged-of 0) (x .ensures) (omega arith))
+      (sym (c .before .before .before .before .before .before .is-above .ensures) ∙ c .before .before .before .before .before .if1 .taken) (logged-fits (a .l .now) (l .i) (x .result) (x .ensures) .hops) (entries (e .last .0)) (e .ensures),
+    )
+
+loop-less-2 : tie.Need-loop-less-2 Inv-loop μ-loop
+loop-less-2 c = search needs
+
+loop-again-2 : tie.Need-loop-again-2 Inv-loop μ-loop
+loop-again-2 c =
+    let a = c .before .before .before .before .before .before .before .before .args in
+    let l = c .before .before .before .before .loop in
+    let x = c .before .before .at in (
+      search needs,
+      search needs,
+      filled-skip (a .c) (a .h) _ (entries (l .row)) _ (l .inv .2)
+      (x .result) _ (next (messages (a .l .now)) (l .i) (x .result) (logged-of 0) (x .ensures) (omega arith)) (sym (c .before .is-above .ensures) ∙ c .if1 .left),
+    )
+
+same-length : tie.Need-same-length Inv-loop μ-loop
+same-length c = search needs
+
+returns : tie.Need-returns Inv-loop μ-loop
+returns c =
+    let a = c .before .before .before .before .before .args in
+    let l = c .before .loop in
+    filled-end (a .c) (a .h) _ (entries (l .row)) _ (l .inv .2) (past (messages (a .l .now)) (l .i) (omega arith))
+
+pub fill-from-spec : {M : Type 1} → statement M
+fill-from-spec =
+    tie.close
+    (tie.spec
+    Inv-loop
+    μ-loop
+    count-requires
+    loop-holds
+    at-requires
+    add-i
+    is-above-requires
+    fill-requires
+    loop-less
+    loop-again
+    loop-less-2
+    loop-again-2
+    same-length
+    returns)

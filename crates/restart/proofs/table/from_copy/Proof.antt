@@ -1,0 +1,93 @@
+use Rattle.restart.specs.Gather.{next, past}
+use borrow.Author.Tests.{not-true, not-false}
+use mathlib.Core.Path.{_≡_, refl, _∙_}
+use Prim.Native.Nat.{_-_, _≤_}
+use native.Mathlib.Omega.{arith}
+use lib.ListN.{length, drop}
+use Rattle.lists.specs.Lists.{gather}
+use Rattle.tickets.specs.Table.{entries, entry-of}
+use Rattle.memory.specs.Places.{ROW}
+use Rattle.restart.specs.Tables.{entering, ticket-on, ticket-stop, enter-end}
+use Rattle.restart.specs.Sources.{copied, copied-is, sender-fits}
+use borrow.Author.Needs.{needs}
+use Rattle.restart.proofs.table.from_copy.Statement.{statement}
+use Rattle.restart.proofs.table.from_copy.Tie as tie
+
+abbrev Inv-loop : tie.InvT-loop
+Inv-loop row₀ t n i₀ row i = (i ≤ n) × (length row ≡ ROW) × (entering (entries row₀) (gather copied (entries t)) ≡ entering (entries row) (gather copied (drop i (entries t))))
+
+abbrev μ-loop : tie.MeasureT-loop
+μ-loop row₀ t n i₀ row i = n - i
+
+count-requires : tie.Need-count-requires Inv-loop μ-loop
+count-requires c κs = search needs
+
+loop-holds : tie.Need-loop-holds Inv-loop μ-loop
+loop-holds c = (search needs, search needs, refl)
+
+at-requires : tie.Need-at-requires Inv-loop μ-loop
+at-requires c κs = search needs
+
+add-i : tie.Need-add-i Inv-loop μ-loop
+add-i c = search needs
+
+enter-once-requires : tie.Need-enter-once-requires Inv-loop μ-loop
+enter-once-requires c κs = search needs
+
+same-length : tie.Need-same-length Inv-loop μ-loop
+same-length c = search needs
+
+returns : tie.Need-returns Inv-loop μ-loop
+returns c =
+    let a = c .before .before .before .before .before .before .before .before .before .before .before .args in
+    let l = c .before .before .before .before .before .before .before .loop in
+    let x = c .before .before .before .before .before .at in
+    let e = c .before .before .before .enter-once in
+    ticket-stop copied _ (l .row) _ (l .inv .2)
+    (x .result) _ (next (entries (a .t .now)) (l .i) (x .result) (entry-of 0) (x .ensures) (omega arith))
+    (l .inv .1) _ _ _ (sender-fits (a .t .now) (l .i) (x .result) (x .ensures)) (copied-is (x .result))
+    (e .last .0) (e .result) (e .ensures) (not-true _ (c .if1 .taken))
+
+loop-less : tie.Need-loop-less Inv-loop μ-loop
+loop-less c = search needs
+
+loop-again : tie.Need-loop-again Inv-loop μ-loop
+loop-again c =
+    let a = c .before .before .before .before .before .before .before .before .before .before .before .args in
+    let l = c .before .before .before .before .before .before .before .loop in
+    let x = c .before .before .before .before .before .at in
+    let e = c .before .before .before .enter-once in (
+      search needs,
+      search needs,
+      ticket-on copied _ (l .row) _ (l .inv .2)
+      (x .result) _ (next (entries (a .t .now)) (l .i) (x .result) (entry-of 0) (x .ensures) (omega arith))
+      (l .inv .1) _ _ _ (sender-fits (a .t .now) (l .i) (x .result) (x .ensures)) (copied-is (x .result))
+      (e .last .0) (e .result) (e .ensures) (not-false _ (c .if1 .left)),
+    )
+
+same-length-2 : tie.Need-same-length-2 Inv-loop μ-loop
+same-length-2 c = search needs
+
+returns-2 : tie.Need-returns-2 Inv-loop μ-loop
+returns-2 c =
+    let a = c .before .before .before .before .before .args in
+    let l = c .before .loop in
+    enter-end copied _ (l .row) _ (l .inv .2) (past (entries (a .t .now)) (l .i) (omega arith))
+
+pub from-copy-spec : {M : Type 1} → statement M
+from-copy-spec =
+    tie.close
+    (tie.spec
+    Inv-loop
+    μ-loop
+    count-requires
+    loop-holds
+    at-requires
+    add-i
+    enter-once-requires
+    same-length
+    returns
+    loop-less
+    loop-again
+    same-length-2
+    returns-2)

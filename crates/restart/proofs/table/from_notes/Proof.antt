@@ -1,0 +1,126 @@
+use Rattle.restart.specs.Gather.{next, past}
+use borrow.Author.Tests.{not-true, not-false}
+use mathlib.Core.Path.{_≡_, refl, _∙_}
+use Prim.Native.Nat.{_-_, _≤_}
+use native.Mathlib.Omega.{arith}
+use lib.ListN.{length, drop}
+use Rattle.lists.specs.Lists.{gather}
+use Rattle.tickets.specs.Table.{entries}
+use Rattle.memory.specs.Places.{ROW}
+use Rattle.notelist.specs.Notes.{notes, note-of}
+use Rattle.restart.specs.Tables.{entering, ticket-on, ticket-stop, enter-skip, enter-end}
+use Rattle.restart.specs.Sources.{noted, noted-in, noted-other, noted-below, noted-fits}
+use borrow.Author.Needs.{needs}
+use Rattle.restart.proofs.table.from_notes.Statement.{statement}
+use Rattle.restart.proofs.table.from_notes.Tie as tie
+
+abbrev Inv-loop : tie.InvT-loop
+Inv-loop row₀ w c h n i₀ row i = (i ≤ n) × (length row ≡ ROW) × (entering (entries row₀) (gather (noted c h) (notes w)) ≡ entering (entries row) (gather (noted c h) (drop i (notes w))))
+
+abbrev μ-loop : tie.MeasureT-loop
+μ-loop row₀ w c h n i₀ row i = n - i
+
+count-requires : tie.Need-count-requires Inv-loop μ-loop
+count-requires c κs = search needs
+
+loop-holds : tie.Need-loop-holds Inv-loop μ-loop
+loop-holds c = (search needs, search needs, refl)
+
+at-requires : tie.Need-at-requires Inv-loop μ-loop
+at-requires c κs = search needs
+
+add-i : tie.Need-add-i Inv-loop μ-loop
+add-i c = search needs
+
+enter-once-requires : tie.Need-enter-once-requires Inv-loop μ-loop
+enter-once-requires c κs = search needs
+
+same-length : tie.Need-same-length Inv-loop μ-loop
+same-length c = search needs
+
+returns : tie.Need-returns Inv-loop μ-loop
+returns c =
+    let a = c .before .before .before .before .before .before .before .before .before .before .before .before .before .before .before .args in
+    let l = c .before .before .before .before .before .before .before .before .before .before .before .loop in
+    let x = c .before .before .before .before .before .before .before .before .before .at in
+    let e = c .before .before .before .enter-once in
+    ticket-stop (noted (a .c) (a .h)) _ (l .row) _ (l .inv .2)
+    (x .result) _ (next (notes (a .w .now)) (l .i) (x .result) (note-of 0) (x .ensures) (omega arith))
+    (l .inv .1) _ _ _ (noted-fits (a .w .now) (l .i) (x .result) (x .ensures) .sender) (noted-in (a .c) (a .h) (x .result) (search needs) (search needs))
+    (e .last .0) (e .result) (e .ensures) (not-true _ (c .if3 .taken))
+
+loop-less : tie.Need-loop-less Inv-loop μ-loop
+loop-less c = search needs
+
+loop-again : tie.Need-loop-again Inv-loop μ-loop
+loop-again c =
+    let a = c .before .before .before .before .before .before .before .before .before .before .before .before .before .before .before .args in
+    let l = c .before .before .before .before .before .before .before .before .before .before .before .loop in
+    let x = c .before .before .before .before .before .before .before .before .before .at in
+    let e = c .before .before .before .enter-once in (
+      search needs,
+      search needs,
+      ticket-on (noted (a .c) (a .h)) _ (l .row) _ (l .inv .2)
+      (x .result) _ (next (notes (a .w .now)) (l .i) (x .result) (note-of 0) (x .ensures) (omega arith))
+      (l .inv .1) _ _ _ (noted-fits (a .w .now) (l .i) (x .result) (x .ensures) .sender) (noted-in (a .c) (a .h) (x .result) (search needs) (search needs))
+      (e .last .0) (e .result) (e .ensures) (not-false _ (c .if3 .left)),
+    )
+
+loop-less-2 : tie.Need-loop-less-2 Inv-loop μ-loop
+loop-less-2 c = search needs
+
+loop-again-2 : tie.Need-loop-again-2 Inv-loop μ-loop
+loop-again-2 c =
+    let a = c .before .before .before .before .before .before .before .before .before .before .args in
+    let l = c .before .before .before .before .before .before .loop in
+    let x = c .before .before .before .before .at in (
+      search needs,
+      search needs,
+      enter-skip (noted (a .c) (a .h)) _ (l .row) _ (l .inv .2)
+      (x .result) _ (next (notes (a .w .now)) (l .i) (x .result) (note-of 0) (x .ensures) (omega arith)) (noted-below (a .c) (a .h) (x .result) (search needs) (search needs)),
+    )
+
+loop-less-3 : tie.Need-loop-less-3 Inv-loop μ-loop
+loop-less-3 c = search needs
+
+loop-again-3 : tie.Need-loop-again-3 Inv-loop μ-loop
+loop-again-3 c =
+    let a = c .before .before .before .before .before .before .before .before .args in
+    let l = c .before .before .before .before .loop in
+    let x = c .before .before .at in (
+      search needs,
+      search needs,
+      enter-skip (noted (a .c) (a .h)) _ (l .row) _ (l .inv .2)
+      (x .result) _ (next (notes (a .w .now)) (l .i) (x .result) (note-of 0) (x .ensures) (omega arith)) (noted-other (a .c) (a .h) (x .result) (search needs)),
+    )
+
+same-length-2 : tie.Need-same-length-2 Inv-loop μ-loop
+same-length-2 c = search needs
+
+returns-2 : tie.Need-returns-2 Inv-loop μ-loop
+returns-2 c =
+    let a = c .before .before .before .before .before .args in
+    let l = c .before .loop in
+    enter-end (noted (a .c) (a .h)) _ (l .row) _ (l .inv .2) (past (notes (a .w .now)) (l .i) (omega arith))
+
+pub from-notes-spec : {M : Type 1} → statement M
+from-notes-spec =
+    tie.close
+    (tie.spec
+    Inv-loop
+    μ-loop
+    count-requires
+    loop-holds
+    at-requires
+    add-i
+    enter-once-requires
+    same-length
+    returns
+    loop-less
+    loop-again
+    loop-less-2
+    loop-again-2
+    loop-less-3
+    loop-again-3
+    same-length-2
+    returns-2)

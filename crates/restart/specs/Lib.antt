@@ -1,0 +1,8 @@
+-- What a restart gives back and sends again, and the laws behind it.
+pub mod Limited
+pub mod Gather
+pub mod Ranges
+pub mod Upto
+pub mod Fills
+pub mod Tables
+pub mod Sources

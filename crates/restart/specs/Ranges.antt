@@ -1,0 +1,30 @@
+-- The numbers from k up to e, e itself left out: what a loop that counts has still to go through.
+use mathlib.Core.Path.{_≡_, refl}
+use mathlib.Core.List.{List, [], _∷_}
+use Prim.Native.Nat.{ℕ, zero, suc, _+_, _-_, _≤_, _<_}
+use native.Mathlib.Omega.{arith}
+use native.Mathlib.Numerals.{add-one}
+use Rattle.protocol.specs.Parts.{every-chare, every-sender}
+
+unfoldable pub count-from : ℕ → ℕ → List ℕ
+count-from zero k = []
+count-from (suc n) k = k ∷ count-from n (suc k)
+
+unfoldable pub range : ℕ → ℕ → List ℕ
+range e k = count-from (e - k) k
+
+pub range-next : (e k : ℕ) → k < e → range e k ≡ k ∷ range e (k + 1)
+unfolding range count-from
+range-next e k h = let q : e - k ≡ suc (e - (k + 1)) = omega arith in rw (q, add-one k)
+
+pub range-past : (e k : ℕ) → e ≤ k → range e k ≡ []
+unfolding range count-from
+range-past e k h = let q : e - k ≡ 0 = omega arith in rw q
+
+pub range-senders : every-sender ≡ range 13 0
+unfolding every-sender every-chare range count-from
+range-senders = refl
+
+pub range-chares : every-chare ≡ range 13 1
+unfolding every-chare range count-from
+range-chares = refl
