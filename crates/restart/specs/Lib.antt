@@ -5,4 +5,5 @@ pub mod Ranges
 pub mod Upto
 pub mod Fills
 pub mod Tables
+pub mod Stored
 pub mod Sources

@@ -3,7 +3,7 @@
 use mathlib.Core.Path.{_≡_, refl, sym, ap, _∙_}
 use mathlib.Core.Bool.{Bool, true, false}
 use mathlib.Core.List.{List, [], _∷_, _++_}
-use Prim.Native.Nat.{ℕ, _<_, _≤_}
+use Prim.Native.Nat.{ℕ, _+_, _<_, _≤_}
 use native.Mathlib.Omega.{arith}
 use borrow.Author.Tests.{eq-eqb, ne-eqb, lt-ltb, le-ltb}
 use lib.Dec.{ltb}
@@ -23,6 +23,11 @@ use Rattle.logs.specs.Log.{logged-of, entries as messages}
 use Rattle.logs.specs.Fits as logs
 use Rattle.notelist.specs.Notes.{note-of, notes}
 use Rattle.notelist.specs.Fits as notelist
+use Rattle.head.specs.Head.{job-of}
+use Rattle.memory.specs.Places.{LOG, MEMORY}
+use Rattle.store.specs.Places.{live-from, copy-from}
+use Rattle.store.specs.View.{view}
+use Rattle.restart.specs.Stored.{span, job-at, live-log, copy-log}
 use Rattle.restart.specs.Gather.{chosen, chosen-yes, chosen-no, gather-each, gather-chosen, gather-gather}
 
 -- what the copy's entries, the messages of a log and the notes add
@@ -84,21 +89,22 @@ noted-fits ws i n q = rw q (notelist.at-fits ws i)
 unfoldable pub sender-tickets : State → ℕ → ℕ → ℕ → ℕ → List Entry
 sender-tickets s p c h q = gather (logged c h) (other-log s p q)
 
-module _ (s : State) (p q : ℕ) where
-  pub other-here : on (s .job) p q ≡ true → (c h : ℕ) → sender-tickets s p c h q ≡ []
-  unfolding sender-tickets other-log gather
-  other-here e c h = rw e
+-- by where q is
+module _ (xs : List ℕ) (p q : ℕ) where
+  pub sender-here : on (job-of xs) p q ≡ true → (c h : ℕ) → sender-tickets (view xs) p c h q ≡ []
+  unfolding view sender-tickets other-log gather
+  sender-here e c h = rw e
 
-  pub other-there : on (s .job) p q ≡ false → (c h : ℕ) (l : List Logged) → s .live q .log ≡ l → gather (logged c h) l ≡ sender-tickets s p c h q
+  pub sender-there : q < 13 → on (job-of xs) p q ≡ false → (c h : ℕ) → sender-tickets (view xs) p c h q ≡ gather (logged c h) (messages (span (live-from q + LOG) (live-from q + MEMORY) xs))
   unfolding sender-tickets other-log
-  other-there e c h l d = rw (e, d)
+  sender-there b e c h = rw (job-at xs, e) (ap (gather (logged c h)) (live-log xs q b))
 
-  pub local-here : on (s .job) p q ≡ true → (l : List Logged) → s .copy q .log ≡ l → l ≡ local-log s p q
+  pub local-here : q < 13 → on (job-of xs) p q ≡ true → local-log (view xs) p q ≡ messages (span (copy-from q + LOG) (copy-from q + MEMORY) xs)
   unfolding local-log
-  local-here e l d = rw (e, d)
+  local-here b e = rw (job-at xs, e) (copy-log xs q b)
 
-  pub local-there : on (s .job) p q ≡ false → local-log s p q ≡ []
-  unfolding local-log
+  pub local-there : on (job-of xs) p q ≡ false → local-log (view xs) p q ≡ []
+  unfolding view local-log
   local-there e = rw e
 
 -- all tickets known of chare c, by one walk through each of their sources

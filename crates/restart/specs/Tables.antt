@@ -61,9 +61,9 @@ module _ {C : Type 0} (g : C → List Entry) (a : Option (List Entry)) (ws : Lis
       unfolding entering
       enter-on f = more-on 16 enter g a (entries ws) rest inv x left e r (entries out) put f
 
-      pub enter-stop : r ≡ false → held r (entries out) ≡ a
+      pub enter-stop : r ≡ false → held false (entries out) ≡ a
       unfolding entering
-      enter-stop f = more-stop 16 enter g a (entries ws) rest inv x left e r (entries out) put f
+      enter-stop f = ap (λ b. held b (entries out)) (sym f) ∙ more-stop 16 enter g a (entries ws) rest inv x left e r (entries out) put f
 
     -- one ticket
     module _ (size : length ws ≡ ROW) (s n tn : ℕ) (small : s < 16) (q : g x ≡ unreceived s n tn ∷ []) (out : List ℕ) (r : Bool) (put : Entering ws (s % 16) n tn out r) where
@@ -74,7 +74,7 @@ module _ {C : Type 0} (g : C → List Entry) (a : Option (List Entry)) (ws : Lis
       ticket-on f = enter-on out r one-put f
 
       pub ticket-stop : r ≡ false → held false (entries out) ≡ a
-      ticket-stop f = ap (λ b. held b (entries out)) (sym f) ∙ enter-stop out r one-put f
+      ticket-stop f = enter-stop out r one-put f
 
 -- ---- one walk after another
 module _ (l x y : List Entry) (r : Bool) (m : List Entry) (put : held r m ≡ entering l x) where

@@ -80,14 +80,16 @@ fn from_logs(row: &mut [u64], s: &[u64], p: u8, c: u8, h: u16) -> bool
 {
     let mut q = 0;
     while q < 13 {
-        if !head::on(s, p, q) {
-            let a = LIVE + (q as usize) * MEMORY + LOG;
-            let e = LIVE + (q as usize) * MEMORY + MEMORY;
+        let here = head::on(s, p, q);
+        let i = q as usize;
+        q += 1;
+        if !here {
+            let a = LIVE + i * MEMORY + LOG;
+            let e = LIVE + i * MEMORY + MEMORY;
             if !from_log(row, &s[a..e], c, h) {
                 return false;
             }
         }
-        q += 1;
     }
     true
 }
@@ -135,12 +137,14 @@ fn fill_all(row: &mut [u64], s: &[u64], p: u8, c: u8, h: u16)
 {
     let mut q = 1;
     while q < 13 {
-        if head::on(s, p, q) {
-            let a = COPY + (q as usize) * MEMORY + LOG;
-            let e = COPY + (q as usize) * MEMORY + MEMORY;
+        let here = head::on(s, p, q);
+        let i = q as usize;
+        q += 1;
+        if here {
+            let a = COPY + i * MEMORY + LOG;
+            let e = COPY + i * MEMORY + MEMORY;
             fill_from(row, &s[a..e], c, h);
         }
-        q += 1;
     }
 }
 

@@ -1,96 +1,110 @@
+use mathlib.Core.Path.{_≡_, refl, sym, _∙_}
+use Prim.Native.Nat.{_-_, _≤_}
+use native.Mathlib.Omega.{arith}
+use lib.ListN.{length}
+use Rattle.lists.specs.Lists.{gather}
+use Rattle.protocol.specs.Parts.{every-chare}
+use Rattle.protocol.specs.Restart.{local-log}
+use Rattle.tickets.specs.Table.{entries}
+use Rattle.store.specs.View.{view}
+use Rattle.restart.specs.Fills.{filling, fill-on, fill-skip, fill-end}
+use Rattle.restart.specs.Ranges.{range, range-next, range-past, range-chares}
+use Rattle.restart.specs.Sources.{local-here, local-there}
 use borrow.Author.Needs.{needs}
 use Rattle.restart.proofs.table.fill_all.Statement.{statement}
 use Rattle.restart.proofs.table.fill_all.Tie as tie
-use Rattle.restart.proofs.table.fill_all.Reads as reads
-use Rattle.restart.proofs.table.fill_all.Lts as lts
-use Rattle.head.proofs.on.Reads as on-reads
-use Rattle.restart.proofs.table.fill_from.Reads as fill-from-reads
 
 abbrev Inv-loop : tie.InvT-loop
-Inv-loop row₀ s p c h q₀ row q = ?
+Inv-loop row₀ s p c h q₀ row q = (1 ≤ q) × (q ≤ 13) × (length row ≡ length row₀) × (filling c h (entries row₀) (gather (local-log (view s) p) every-chare) ≡ filling c h (entries row) (gather (local-log (view s) p) (range 13 q)))
 
 abbrev μ-loop : tie.MeasureT-loop
-μ-loop row₀ s p c h q₀ row q = ?
+μ-loop row₀ s p c h q₀ row q = 13 - q
 
--- src/table.rt:137:5
 loop-holds : tie.Need-loop-holds Inv-loop μ-loop
-loop-holds c = search needs
+loop-holds c = let a = c .before .before .args in (search needs, search needs, refl, rw range-chares)
 
--- src/table.rt:138:12
 on-requires : tie.Need-on-requires Inv-loop μ-loop
 on-requires c κs = search needs
 
--- src/table.rt:139:29
-cast-a : tie.Need-cast-a Inv-loop μ-loop
-cast-a c = search needs
+cast-i : tie.Need-cast-i Inv-loop μ-loop
+cast-i c = search needs
 
--- src/table.rt:139:28
-mul-a : tie.Need-mul-a Inv-loop μ-loop
-mul-a c = search needs
-
--- src/table.rt:139:21
-add-a : tie.Need-add-a Inv-loop μ-loop
-add-a c = search needs
-
--- src/table.rt:139:21
-add-a-2 : tie.Need-add-a-2 Inv-loop μ-loop
-add-a-2 c = search needs
-
--- src/table.rt:140:29
-cast-e : tie.Need-cast-e Inv-loop μ-loop
-cast-e c = search needs
-
--- src/table.rt:140:28
-mul-e : tie.Need-mul-e Inv-loop μ-loop
-mul-e c = search needs
-
--- src/table.rt:140:21
-add-e : tie.Need-add-e Inv-loop μ-loop
-add-e c = search needs
-
--- src/table.rt:140:21
-add-e-2 : tie.Need-add-e-2 Inv-loop μ-loop
-add-e-2 c = search needs
-
--- src/table.rt:141:28
-mul-fill-from : tie.Need-mul-fill-from Inv-loop μ-loop
-mul-fill-from c = search needs
-
--- src/table.rt:141:28
-sub-fill-from : tie.Need-sub-fill-from Inv-loop μ-loop
-sub-fill-from c = search needs
-
--- src/table.rt:141:28
-part-fill-from-start : tie.Need-part-fill-from-start Inv-loop μ-loop
-part-fill-from-start c = search needs
-
--- src/table.rt:141:28
-part-fill-from-end : tie.Need-part-fill-from-end Inv-loop μ-loop
-part-fill-from-end c = search needs
-
--- src/table.rt:141:13
-fill-from-requires : tie.Need-fill-from-requires Inv-loop μ-loop
-fill-from-requires c κs = search needs
-
--- src/table.rt:143:9
 add-q : tie.Need-add-q Inv-loop μ-loop
 add-q c = search needs
 
--- src/table.rt:137:5
+mul-a : tie.Need-mul-a Inv-loop μ-loop
+mul-a c = search needs
+
+add-a : tie.Need-add-a Inv-loop μ-loop
+add-a c = search needs
+
+add-a-2 : tie.Need-add-a-2 Inv-loop μ-loop
+add-a-2 c = search needs
+
+mul-e : tie.Need-mul-e Inv-loop μ-loop
+mul-e c = search needs
+
+add-e : tie.Need-add-e Inv-loop μ-loop
+add-e c = search needs
+
+add-e-2 : tie.Need-add-e-2 Inv-loop μ-loop
+add-e-2 c = search needs
+
+mul-fill-from : tie.Need-mul-fill-from Inv-loop μ-loop
+mul-fill-from c = search needs
+
+sub-fill-from : tie.Need-sub-fill-from Inv-loop μ-loop
+sub-fill-from c = search needs
+
+part-fill-from-start : tie.Need-part-fill-from-start Inv-loop μ-loop
+part-fill-from-start c = search needs
+
+part-fill-from-end : tie.Need-part-fill-from-end Inv-loop μ-loop
+part-fill-from-end c = search needs
+
+fill-from-requires : tie.Need-fill-from-requires Inv-loop μ-loop
+fill-from-requires c κs = search needs
+
 loop-less : tie.Need-loop-less Inv-loop μ-loop
 loop-less c = search needs
 
--- src/table.rt:137:5
 loop-again : tie.Need-loop-again Inv-loop μ-loop
-loop-again c = search needs
+loop-again c =
+    let a = c .before .before .before .before .before .before .before .before .before .before .before .args in
+    let l = c .before .before .before .before .before .before .before .before .loop in
+    let f = c .before .before .fill-from in
+    let here = sym (c .before .before .before .before .before .before .on .ensures) ∙ c .before .before .before .before .before .if1 .taken in (
+      search needs,
+      search needs,
+      search needs,
+      fill-on (a .c) (a .h) (local-log (view (a .s .now)) (a .p)) _ (entries (l .row)) _ (l .inv .3)
+      (l .q) _ (range-next 13 (l .q) (omega arith)) (entries (f .last .0))
+      (rw (local-here (a .s .now) (a .p) (l .q) (omega arith) here) (f .ensures)),
+    )
 
--- src/table.rt:132:1
+loop-less-2 : tie.Need-loop-less-2 Inv-loop μ-loop
+loop-less-2 c = search needs
+
+loop-again-2 : tie.Need-loop-again-2 Inv-loop μ-loop
+loop-again-2 c =
+    let a = c .before .before .before .before .before .before .args in
+    let l = c .before .before .before .loop in
+    let there = sym (c .before .on .ensures) ∙ c .if1 .left in (
+      search needs,
+      search needs,
+      search needs,
+      fill-skip (a .c) (a .h) (local-log (view (a .s .now)) (a .p)) _ (entries (l .row)) _ (l .inv .3)
+      (l .q) _ (range-next 13 (l .q) (omega arith)) (local-there (a .s .now) (a .p) (l .q) there),
+    )
+
 same-length : tie.Need-same-length Inv-loop μ-loop
 same-length c = search needs
 
--- src/table.rt:132:1
 returns : tie.Need-returns Inv-loop μ-loop
-returns c = search needs
+returns c =
+    let a = c .before .before .before .before .args in
+    let l = c .before .loop in
+    fill-end (a .c) (a .h) (local-log (view (a .s .now)) (a .p)) _ (entries (l .row)) _ (l .inv .3) (range-past 13 (l .q) (omega arith))
 
 pub fill-all-spec : {M : Type 1} → statement M
 fill-all-spec =
@@ -100,11 +114,11 @@ fill-all-spec =
     μ-loop
     loop-holds
     on-requires
-    cast-a
+    cast-i
+    add-q
     mul-a
     add-a
     add-a-2
-    cast-e
     mul-e
     add-e
     add-e-2
@@ -113,8 +127,9 @@ fill-all-spec =
     part-fill-from-start
     part-fill-from-end
     fill-from-requires
-    add-q
     loop-less
     loop-again
+    loop-less-2
+    loop-again-2
     same-length
     returns)

@@ -1,104 +1,124 @@
+use mathlib.Core.Path.{_≡_, refl, sym, _∙_}
+use Prim.Native.Nat.{_-_, _≤_}
+use native.Mathlib.Omega.{arith}
+use borrow.Author.Tests.{not-true, not-false}
+use lib.ListN.{length}
+use Rattle.lists.specs.Lists.{gather}
+use Rattle.protocol.specs.Parts.{every-sender}
+use Rattle.tickets.specs.Table.{entries}
+use Rattle.memory.specs.Places.{ROW}
+use Rattle.store.specs.View.{view}
+use Rattle.restart.specs.Tables.{entering, enter-on, enter-stop, enter-skip, enter-end}
+use Rattle.restart.specs.Ranges.{range, range-next, range-past, range-senders}
+use Rattle.restart.specs.Sources.{sender-tickets, sender-here, sender-there}
 use borrow.Author.Needs.{needs}
 use Rattle.restart.proofs.table.from_logs.Statement.{statement}
 use Rattle.restart.proofs.table.from_logs.Tie as tie
-use Rattle.restart.proofs.table.from_logs.Reads as reads
-use Rattle.restart.proofs.table.from_logs.Lts as lts
-use Rattle.head.proofs.on.Reads as on-reads
-use Rattle.restart.proofs.table.from_log.Reads as from-log-reads
 
 abbrev Inv-loop : tie.InvT-loop
-Inv-loop row₀ s p c h q₀ row q = ?
+Inv-loop row₀ s p c h q₀ row q = (q ≤ 13) × (length row ≡ ROW) × (entering (entries row₀) (gather (sender-tickets (view s) p c h) every-sender) ≡ entering (entries row) (gather (sender-tickets (view s) p c h) (range 13 q)))
 
 abbrev μ-loop : tie.MeasureT-loop
-μ-loop row₀ s p c h q₀ row q = ?
+μ-loop row₀ s p c h q₀ row q = 13 - q
 
--- src/table.rt:82:5
 loop-holds : tie.Need-loop-holds Inv-loop μ-loop
-loop-holds c = search needs
+loop-holds c = let a = c .before .before .args in (search needs, search needs, rw range-senders)
 
--- src/table.rt:83:13
 on-requires : tie.Need-on-requires Inv-loop μ-loop
 on-requires c κs = search needs
 
--- src/table.rt:84:29
-cast-a : tie.Need-cast-a Inv-loop μ-loop
-cast-a c = search needs
+cast-i : tie.Need-cast-i Inv-loop μ-loop
+cast-i c = search needs
 
--- src/table.rt:84:28
-mul-a : tie.Need-mul-a Inv-loop μ-loop
-mul-a c = search needs
-
--- src/table.rt:84:21
-add-a : tie.Need-add-a Inv-loop μ-loop
-add-a c = search needs
-
--- src/table.rt:84:21
-add-a-2 : tie.Need-add-a-2 Inv-loop μ-loop
-add-a-2 c = search needs
-
--- src/table.rt:85:29
-cast-e : tie.Need-cast-e Inv-loop μ-loop
-cast-e c = search needs
-
--- src/table.rt:85:28
-mul-e : tie.Need-mul-e Inv-loop μ-loop
-mul-e c = search needs
-
--- src/table.rt:85:21
-add-e : tie.Need-add-e Inv-loop μ-loop
-add-e c = search needs
-
--- src/table.rt:85:21
-add-e-2 : tie.Need-add-e-2 Inv-loop μ-loop
-add-e-2 c = search needs
-
--- src/table.rt:86:31
-mul-from-log : tie.Need-mul-from-log Inv-loop μ-loop
-mul-from-log c = search needs
-
--- src/table.rt:86:31
-sub-from-log : tie.Need-sub-from-log Inv-loop μ-loop
-sub-from-log c = search needs
-
--- src/table.rt:86:31
-part-from-log-start : tie.Need-part-from-log-start Inv-loop μ-loop
-part-from-log-start c = search needs
-
--- src/table.rt:86:31
-part-from-log-end : tie.Need-part-from-log-end Inv-loop μ-loop
-part-from-log-end c = search needs
-
--- src/table.rt:86:17
-from-log-requires : tie.Need-from-log-requires Inv-loop μ-loop
-from-log-requires c κs = search needs
-
--- src/table.rt:87:17
-same-length : tie.Need-same-length Inv-loop μ-loop
-same-length c = search needs
-
--- src/table.rt:87:17
-returns : tie.Need-returns Inv-loop μ-loop
-returns c = search needs
-
--- src/table.rt:90:9
 add-q : tie.Need-add-q Inv-loop μ-loop
 add-q c = search needs
 
--- src/table.rt:82:5
+mul-a : tie.Need-mul-a Inv-loop μ-loop
+mul-a c = search needs
+
+add-a : tie.Need-add-a Inv-loop μ-loop
+add-a c = search needs
+
+add-a-2 : tie.Need-add-a-2 Inv-loop μ-loop
+add-a-2 c = search needs
+
+mul-e : tie.Need-mul-e Inv-loop μ-loop
+mul-e c = search needs
+
+add-e : tie.Need-add-e Inv-loop μ-loop
+add-e c = search needs
+
+add-e-2 : tie.Need-add-e-2 Inv-loop μ-loop
+add-e-2 c = search needs
+
+mul-from-log : tie.Need-mul-from-log Inv-loop μ-loop
+mul-from-log c = search needs
+
+sub-from-log : tie.Need-sub-from-log Inv-loop μ-loop
+sub-from-log c = search needs
+
+part-from-log-start : tie.Need-part-from-log-start Inv-loop μ-loop
+part-from-log-start c = search needs
+
+part-from-log-end : tie.Need-part-from-log-end Inv-loop μ-loop
+part-from-log-end c = search needs
+
+from-log-requires : tie.Need-from-log-requires Inv-loop μ-loop
+from-log-requires c κs = search needs
+
+same-length : tie.Need-same-length Inv-loop μ-loop
+same-length c = search needs
+
+returns : tie.Need-returns Inv-loop μ-loop
+returns c =
+    let a = c .before .before .before .before .before .before .before .before .before .before .before .before .args in
+    let l = c .before .before .before .before .before .before .before .before .before .loop in
+    let f = c .before .before .before .from-log in
+    let there = sym (c .before .before .before .before .before .before .before .on .ensures) ∙ not-true _ (c .before .before .before .before .before .before .if1 .taken) in
+    enter-stop (sender-tickets (view (a .s .now)) (a .p) (a .c) (a .h)) _ (l .row) _ (l .inv .2)
+    (l .q) _ (range-next 13 (l .q) (omega arith)) (f .last .0) (f .result)
+    (rw (sender-there (a .s .now) (a .p) (l .q) (omega arith) there (a .c) (a .h)) (f .ensures))
+    (not-true _ (c .if2 .taken))
+
 loop-less : tie.Need-loop-less Inv-loop μ-loop
 loop-less c = search needs
 
--- src/table.rt:82:5
 loop-again : tie.Need-loop-again Inv-loop μ-loop
-loop-again c = search needs
+loop-again c =
+    let a = c .before .before .before .before .before .before .before .before .before .before .before .before .args in
+    let l = c .before .before .before .before .before .before .before .before .before .loop in
+    let f = c .before .before .before .from-log in
+    let there = sym (c .before .before .before .before .before .before .before .on .ensures) ∙ not-true _ (c .before .before .before .before .before .before .if1 .taken) in (
+      search needs,
+      search needs,
+      enter-on (sender-tickets (view (a .s .now)) (a .p) (a .c) (a .h)) _ (l .row) _ (l .inv .2)
+      (l .q) _ (range-next 13 (l .q) (omega arith)) (f .last .0) (f .result)
+      (rw (sender-there (a .s .now) (a .p) (l .q) (omega arith) there (a .c) (a .h)) (f .ensures))
+      (not-false _ (c .if2 .left)),
+    )
 
--- src/table.rt:76:1
+loop-less-2 : tie.Need-loop-less-2 Inv-loop μ-loop
+loop-less-2 c = search needs
+
+loop-again-2 : tie.Need-loop-again-2 Inv-loop μ-loop
+loop-again-2 c =
+    let a = c .before .before .before .before .before .before .args in
+    let l = c .before .before .before .loop in
+    let here = sym (c .before .on .ensures) ∙ not-false _ (c .if1 .left) in (
+      search needs,
+      search needs,
+      enter-skip (sender-tickets (view (a .s .now)) (a .p) (a .c) (a .h)) _ (l .row) _ (l .inv .2)
+      (l .q) _ (range-next 13 (l .q) (omega arith)) (sender-here (a .s .now) (a .p) (l .q) here (a .c) (a .h)),
+    )
+
 same-length-2 : tie.Need-same-length-2 Inv-loop μ-loop
 same-length-2 c = search needs
 
--- src/table.rt:76:1
 returns-2 : tie.Need-returns-2 Inv-loop μ-loop
-returns-2 c = search needs
+returns-2 c =
+    let a = c .before .before .before .before .args in
+    let l = c .before .loop in
+    enter-end (sender-tickets (view (a .s .now)) (a .p) (a .c) (a .h)) _ (l .row) _ (l .inv .2) (range-past 13 (l .q) (omega arith))
 
 pub from-logs-spec : {M : Type 1} → statement M
 from-logs-spec =
@@ -108,11 +128,11 @@ from-logs-spec =
     μ-loop
     loop-holds
     on-requires
-    cast-a
+    cast-i
+    add-q
     mul-a
     add-a
     add-a-2
-    cast-e
     mul-e
     add-e
     add-e-2
@@ -123,8 +143,9 @@ from-logs-spec =
     from-log-requires
     same-length
     returns
-    add-q
     loop-less
     loop-again
+    loop-less-2
+    loop-again-2
     same-length-2
     returns-2)

@@ -1,0 +1,49 @@
+-- Logs, tables and heights of a store's view, by the places that they stand at.
+use mathlib.Core.Path.{_≡_, refl, sym, ap, _∙_}
+use mathlib.Core.List.{List}
+use Prim.Native.Nat.{ℕ, _+_, _-_, _≤_, _<_}
+use native.Mathlib.Omega.{arith}
+use lib.ListN.{take, drop}
+use lib.Seq.{drop-drop}
+use Rattle.words.specs.Part.{part}
+use Rattle.head.specs.Head.{job-of}
+use Rattle.head.specs.Kept.{part-front}
+use Rattle.tickets.specs.Table as tickets
+use Rattle.logs.specs.Log as logs
+use Rattle.notelist.specs.Notes.{notes}
+use Rattle.memory.specs.Places.{TABLE, ROW, LOG, MEMORY}
+use Rattle.memory.specs.View.{memory-view, log-part, table-part}
+use Rattle.store.specs.Places.{NOTELIST, live-from, copy-from, notes-from}
+use Rattle.store.specs.View.{view}
+use Rattle.store.specs.ViewLaws.{live-at, copy-at, notes-at}
+
+-- from a up to e, as it is lent
+abbrev pub span : ℕ → ℕ → List ℕ → List ℕ
+span a e xs = part a (e - a) xs
+
+-- a part of a part
+pub part-part : (a n b j : ℕ) (xs : List ℕ) → b + j ≤ n → part b j (part a n xs) ≡ part (a + b) j xs
+part-part a n b j xs h = part-front b j n (drop a xs) h ∙ ap (take j) (drop-drop b a xs)
+
+inner : (a n b e j : ℕ) (xs : List ℕ) → b + j ≤ n → e - (a + b) ≡ j → part b j (part a n xs) ≡ span (a + b) e xs
+inner a n b e j xs h d = part-part a n b j xs h ∙ rw d
+
+pub job-at : (xs : List ℕ) → view xs .job ≡ job-of xs
+unfolding view
+job-at xs = refl
+
+module _ (xs : List ℕ) (c : ℕ) (h : c < 13) where
+  pub live-log : view xs .live c .log ≡ logs.entries (span (live-from c + LOG) (live-from c + MEMORY) xs)
+  live-log = ap (λ m. m .log) (live-at xs c h) ∙ log-part (part (live-from c) MEMORY xs) ∙ ap logs.entries (inner (live-from c) MEMORY LOG (live-from c + MEMORY) ROW xs (omega arith) (omega arith))
+
+  pub copy-log : view xs .copy c .log ≡ logs.entries (span (copy-from c + LOG) (copy-from c + MEMORY) xs)
+  copy-log = ap (λ m. m .log) (copy-at xs c h) ∙ log-part (part (copy-from c) MEMORY xs) ∙ ap logs.entries (inner (copy-from c) MEMORY LOG (copy-from c + MEMORY) ROW xs (omega arith) (omega arith))
+
+  pub copy-table : view xs .copy c .table ≡ tickets.entries (span (copy-from c + TABLE) (copy-from c + LOG) xs)
+  copy-table = ap (λ m. m .table) (copy-at xs c h) ∙ table-part (part (copy-from c) MEMORY xs) ∙ ap tickets.entries (inner (copy-from c) MEMORY TABLE (copy-from c + LOG) ROW xs (omega arith) (omega arith))
+
+  pub copy-height : view xs .copy c .height ≡ memory-view (span (copy-from c) (copy-from c + MEMORY) xs) .height
+  copy-height = let e : (copy-from c + MEMORY) - copy-from c ≡ MEMORY = omega arith in ap (λ m. m .height) (copy-at xs c h) ∙ rw e
+
+pub notes-kept : (xs : List ℕ) (p : ℕ) → p < 7 → view xs .notes p ≡ notes (span (notes-from p) (notes-from p + NOTELIST) xs)
+notes-kept xs p h = let e : (notes-from p + NOTELIST) - notes-from p ≡ NOTELIST = omega arith in notes-at xs p h ∙ rw e
