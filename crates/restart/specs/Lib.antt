@@ -7,3 +7,4 @@ pub mod Fills
 pub mod Tables
 pub mod Stored
 pub mod Sources
+pub mod Built

@@ -150,9 +150,7 @@ fn fill_all(row: &mut [u64], s: &[u64], p: u8, c: u8, h: u16)
 
 // The table of chare c on machine p, where it fits.
 pub(crate) fn build(s: &[u64], p: u8, c: u8, row: &mut [u64]) -> bool
-    requires { ⌜ length (now s) ≡ STORE ⌝ }
-    requires { ⌜ (p < 7) × (c < 13) ⌝ }
-    requires { ⌜ length (now row) ≡ ROW ⌝ }
+    requires { ⌜ (length (now s) ≡ STORE) × (length (now row) ≡ ROW) × (p < 7) × (c < 13) ⌝ }
     ensures { λ r. ⌜ held r (entries (now (row .exit))) ≡ limit 16 (filled-table (view (now (s .entry))) p c) ⌝ }
 {
     row[0] = 0;
