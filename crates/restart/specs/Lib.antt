@@ -8,3 +8,6 @@ pub mod Tables
 pub mod Stored
 pub mod Sources
 pub mod Built
+pub mod Resends
+pub mod Sent
+pub mod Over

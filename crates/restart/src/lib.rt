@@ -1,2 +1,4 @@
 // Frame 15: tables and wire are built beside the store; then, if both fit, the store is changed.
+mod over;
+mod resend;
 mod table;

@@ -1,0 +1,53 @@
+use Rattle.protocol.specs.Sending.{about}
+use Rattle.restart.specs.Sent.{put-none, put-one, put-full}
+use Rattle.packets.specs.Words.{packets}
+use native.Mathlib.Omega.{arith}
+use borrow.Author.Needs.{needs}
+use Rattle.restart.proofs.resend.put.Statement.{statement}
+use Rattle.restart.proofs.resend.put.Tie as tie
+
+enum-known-o : tie.Need-enum-known-o
+enum-known-o c = search needs
+
+enum-told : tie.Need-enum-told
+enum-told c = search needs
+
+returns : tie.Need-returns
+returns c = let a = c .before .before .before .args in rw (c .enum-told .given .1) (put-none (a .m) (packets (a .wire .now)))
+
+count-requires : tie.Need-count-requires
+count-requires c κs = search needs
+
+same-length : tie.Need-same-length
+same-length c = search needs
+
+returns-2 : tie.Need-returns-2
+returns-2 c = let a = c .before .before .before .before .before .before .before .args in rw (c .before .before .before .before .o .given .1) (put-full (a .m) _ (a .wire .now) (omega arith))
+
+join-requires : tie.Need-join-requires
+join-requires c κs = search needs
+
+same-length-2 : tie.Need-same-length-2
+same-length-2 c = search needs
+
+returns-3 : tie.Need-returns-3
+unfolding about
+returns-3 c =
+    let st = c .before .before .before .before .before .before .before .before .before .before .before in
+    let a = st .args in
+    let j = c .before .before .join in
+    rw (c .before .before .before .before .before .before .before .before .o .given .1) (put-one (a .m) _ (a .wire .now) (st .pre) (omega arith) (j .last .0) (j .ensures))
+
+pub put-spec : {M : Type 1} → statement M
+put-spec =
+    tie.close
+    (tie.spec
+    enum-known-o
+    enum-told
+    returns
+    count-requires
+    same-length
+    returns-2
+    join-requires
+    same-length-2
+    returns-3)

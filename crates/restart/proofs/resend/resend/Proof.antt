@@ -1,0 +1,54 @@
+use Rattle.restart.specs.Resends.{again-inside, again-in, again-out, again-outside, on-small}
+use native.Mathlib.Omega.{arith}
+use mathlib.Core.Path.{sym, _∙_}
+use borrow.Author.Needs.{needs}
+use Rattle.restart.proofs.resend.resend.Statement.{statement}
+use Rattle.restart.proofs.resend.resend.Tie as tie
+
+on-requires : tie.Need-on-requires
+on-requires c κs = search needs
+
+returns : tie.Need-returns
+returns c =
+    let a = c .before .before .before .before .before .args in
+    rw (c .if2 .taken) (again-inside (a .s .now) (a .p) (a .x) (sym (c .before .before .on .ensures) ∙ c .before .if1 .taken))
+
+height-back-requires : tie.Need-height-back-requires
+height-back-requires c κs =
+    let st = c .before .before .before .before .before in
+    let a = st .args in
+    (st .pre .0, on-small (a .s .now) (a .p) (a .x .message .receiver) (omega arith) (st .pre .1) (sym (c .before .before .on .ensures) ∙ c .before .if1 .taken))
+
+from-elsewhere-requires : tie.Need-from-elsewhere-requires
+from-elsewhere-requires c κs = search needs
+
+returns-2 : tie.Need-returns-2
+returns-2 c =
+    let a = c .before .before .before .before .before .before .before .args in
+    rw (c .before .before .if2 .left) (c .from-elsewhere .ensures ∙ again-in (a .s .now) (a .p) (a .x) (sym (c .before .before .before .before .on .ensures) ∙ c .before .before .before .if1 .taken) _ (c .before .height-back .ensures))
+
+from-here-requires : tie.Need-from-here-requires
+from-here-requires c κs = search needs
+
+returns-3 : tie.Need-returns-3
+returns-3 c =
+    let a = c .before .before .before .before .before .before .args in
+    rw (c .before .if3 .taken) (c .from-here .ensures ∙ again-out (a .s .now) (a .p) (a .x) (sym (c .before .before .before .on .ensures) ∙ c .before .before .if1 .left))
+
+returns-4 : tie.Need-returns-4
+returns-4 c =
+    let a = c .before .before .before .before .before .args in
+    rw (c .if3 .left) (again-outside (a .s .now) (a .p) (a .x) (sym (c .before .before .on .ensures) ∙ c .before .if1 .left))
+
+pub resend-spec : {M : Type 1} → statement M
+resend-spec =
+    tie.close
+    (tie.spec
+    on-requires
+    returns
+    height-back-requires
+    from-elsewhere-requires
+    returns-2
+    from-here-requires
+    returns-3
+    returns-4)

@@ -1,0 +1,81 @@
+use mathlib.Core.Path.{_≡_}
+use Prim.Native.Nat.{_-_, _≤_}
+use native.Mathlib.Omega.{arith}
+use borrow.Author.Tests.{not-true, not-false}
+use lib.ListN.{length}
+use Rattle.lists.specs.Lists.{gather}
+use Rattle.protocol.specs.Parts.{every-sender}
+use Rattle.packets.specs.Words.{packets}
+use Rattle.store.specs.Places.{PACKETS}
+use Rattle.store.specs.View.{view}
+use Rattle.restart.specs.Ranges.{range, range-next, range-past, range-senders}
+use Rattle.restart.specs.Resends.{all-again}
+use Rattle.restart.specs.Sent.{putting, put-end, put-on, put-stop}
+use borrow.Author.Needs.{needs}
+use Rattle.restart.proofs.resend.resend_all.Statement.{statement}
+use Rattle.restart.proofs.resend.resend_all.Tie as tie
+
+abbrev Inv-loop : tie.InvT-loop
+Inv-loop s p wire₀ q₀ wire q = (q ≤ 13) × (length wire ≡ PACKETS) × (putting (packets wire₀) (gather (all-again (view s) p) every-sender) ≡ putting (packets wire) (gather (all-again (view s) p) (range 13 q)))
+
+abbrev μ-loop : tie.MeasureT-loop
+μ-loop s p wire₀ q₀ wire q = 13 - q
+
+loop-holds : tie.Need-loop-holds Inv-loop μ-loop
+loop-holds c = (search needs, search needs, rw range-senders)
+
+add-q : tie.Need-add-q Inv-loop μ-loop
+add-q c = search needs
+
+resend-from-requires : tie.Need-resend-from-requires Inv-loop μ-loop
+resend-from-requires c κs = search needs
+
+same-length : tie.Need-same-length Inv-loop μ-loop
+same-length c = search needs
+
+returns : tie.Need-returns Inv-loop μ-loop
+returns c =
+    let a = c .before .before .before .before .before .before .before .before .before .args in
+    let l = c .before .before .before .before .before .before .loop in
+    let f = c .before .before .before .resend-from in
+    put-stop (all-again (view (a .s .now)) (a .p)) _ (l .wire) _ (l .inv .2)
+    (l .q) _ (range-next 13 (l .q) (omega arith)) _ (f .result) (f .ensures) (not-true _ (c .if1 .taken))
+
+loop-less : tie.Need-loop-less Inv-loop μ-loop
+loop-less c = search needs
+
+loop-again : tie.Need-loop-again Inv-loop μ-loop
+loop-again c =
+    let a = c .before .before .before .before .before .before .before .before .before .args in
+    let l = c .before .before .before .before .before .before .loop in
+    let f = c .before .before .before .resend-from in (
+      search needs,
+      search needs,
+      put-on (all-again (view (a .s .now)) (a .p)) _ (l .wire) _ (l .inv .2)
+      (l .q) _ (range-next 13 (l .q) (omega arith)) _ (f .result) (f .ensures) (not-false _ (c .if1 .left)),
+    )
+
+same-length-2 : tie.Need-same-length-2 Inv-loop μ-loop
+same-length-2 c = search needs
+
+returns-2 : tie.Need-returns-2 Inv-loop μ-loop
+returns-2 c =
+    let a = c .before .before .before .before .args in
+    let l = c .before .loop in
+    put-end (all-again (view (a .s .now)) (a .p)) _ (l .wire) _ (l .inv .2) (range-past 13 (l .q) (omega arith))
+
+pub resend-all-spec : {M : Type 1} → statement M
+resend-all-spec =
+    tie.close
+    (tie.spec
+    Inv-loop
+    μ-loop
+    loop-holds
+    add-q
+    resend-from-requires
+    same-length
+    returns
+    loop-less
+    loop-again
+    same-length-2
+    returns-2)

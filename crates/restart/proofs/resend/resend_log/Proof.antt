@@ -1,0 +1,102 @@
+use mathlib.Core.Path.{_≡_, refl}
+use Prim.Native.Nat.{_-_, _≤_}
+use native.Mathlib.Omega.{arith}
+use borrow.Author.Tests.{not-true, not-false}
+use lib.ListN.{length, drop}
+use Rattle.lists.specs.Lists.{gather}
+use Rattle.logs.specs.Log.{logged-of, entries as messages}
+use Rattle.packets.specs.Words.{packets}
+use Rattle.store.specs.Places.{PACKETS}
+use Rattle.store.specs.View.{view}
+use Rattle.restart.specs.Gather.{next, past}
+use Rattle.restart.specs.Sources.{logged-fits}
+use Rattle.restart.specs.Resends.{again}
+use Rattle.restart.specs.Sent.{putting, put-again, put-end, put-on, put-stop}
+use borrow.Author.Needs.{needs}
+use Rattle.restart.proofs.resend.resend_log.Statement.{statement}
+use Rattle.restart.proofs.resend.resend_log.Tie as tie
+
+abbrev Inv-loop : tie.InvT-loop
+Inv-loop s p here l wire₀ n i₀ wire i = (i ≤ n) × (length wire ≡ PACKETS) × (putting (packets wire₀) (gather (again (view s) p here) (messages l)) ≡ putting (packets wire) (gather (again (view s) p here) (drop i (messages l))))
+
+abbrev μ-loop : tie.MeasureT-loop
+μ-loop s p here l wire₀ n i₀ wire i = n - i
+
+count-requires : tie.Need-count-requires Inv-loop μ-loop
+count-requires c κs = search needs
+
+loop-holds : tie.Need-loop-holds Inv-loop μ-loop
+loop-holds c = (search needs, search needs, refl)
+
+at-requires : tie.Need-at-requires Inv-loop μ-loop
+at-requires c κs = search needs
+
+add-i : tie.Need-add-i Inv-loop μ-loop
+add-i c = search needs
+
+resend-requires : tie.Need-resend-requires Inv-loop μ-loop
+resend-requires c κs = search needs
+
+put-requires : tie.Need-put-requires Inv-loop μ-loop
+put-requires c κs = search needs
+
+same-length : tie.Need-same-length Inv-loop μ-loop
+same-length c = search needs
+
+returns : tie.Need-returns Inv-loop μ-loop
+returns c =
+    let a = c .before .before .before .before .before .before .before .before .before .before .before .before .before .args in
+    let l = c .before .before .before .before .before .before .before .before .loop in
+    let x = c .before .before .before .before .before .before .at in
+    let o = c .before .before .before .before .before .resend in
+    let f = c .before .before .before .put in
+    put-stop (again (view (a .s .now)) (a .p) (a .here)) _ (l .wire) _ (l .inv .2)
+    (x .result) _ (next (messages (a .l .now)) (l .i) (x .result) (logged-of 0) (x .ensures) (omega arith)) (f .last .0) (f .result)
+    (put-again (x .result) (logged-fits (a .l .now) (l .i) (x .result) (x .ensures)) (view (a .s .now)) (a .p) (a .here) (o .result) (o .ensures) (packets (l .wire)) _ (f .ensures))
+    (not-true _ (c .if1 .taken))
+
+loop-less : tie.Need-loop-less Inv-loop μ-loop
+loop-less c = search needs
+
+loop-again : tie.Need-loop-again Inv-loop μ-loop
+loop-again c =
+    let a = c .before .before .before .before .before .before .before .before .before .before .before .before .before .args in
+    let l = c .before .before .before .before .before .before .before .before .loop in
+    let x = c .before .before .before .before .before .before .at in
+    let o = c .before .before .before .before .before .resend in
+    let f = c .before .before .before .put in (
+      search needs,
+      search needs,
+      put-on (again (view (a .s .now)) (a .p) (a .here)) _ (l .wire) _ (l .inv .2)
+      (x .result) _ (next (messages (a .l .now)) (l .i) (x .result) (logged-of 0) (x .ensures) (omega arith)) (f .last .0) (f .result)
+      (put-again (x .result) (logged-fits (a .l .now) (l .i) (x .result) (x .ensures)) (view (a .s .now)) (a .p) (a .here) (o .result) (o .ensures) (packets (l .wire)) _ (f .ensures))
+      (not-false _ (c .if1 .left)),
+    )
+
+same-length-2 : tie.Need-same-length-2 Inv-loop μ-loop
+same-length-2 c = search needs
+
+returns-2 : tie.Need-returns-2 Inv-loop μ-loop
+returns-2 c =
+    let a = c .before .before .before .before .before .before .args in
+    let l = c .before .loop in
+    put-end (again (view (a .s .now)) (a .p) (a .here)) _ (l .wire) _ (l .inv .2) (past (messages (a .l .now)) (l .i) (omega arith))
+
+pub resend-log-spec : {M : Type 1} → statement M
+resend-log-spec =
+    tie.close
+    (tie.spec
+    Inv-loop
+    μ-loop
+    count-requires
+    loop-holds
+    at-requires
+    add-i
+    resend-requires
+    put-requires
+    same-length
+    returns
+    loop-less
+    loop-again
+    same-length-2
+    returns-2)
