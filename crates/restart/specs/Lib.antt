@@ -2,7 +2,6 @@
 pub mod Limited
 pub mod Gather
 pub mod Ranges
-pub mod Upto
 pub mod Fills
 pub mod Tables
 pub mod Stored
@@ -11,3 +10,6 @@ pub mod Built
 pub mod Resends
 pub mod Sent
 pub mod Over
+pub mod Restored
+pub mod Homes
+pub mod Judged
