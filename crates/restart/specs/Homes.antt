@@ -5,8 +5,7 @@ use mathlib.Core.List.{List, [], _∷_}
 use mathlib.Core.Logic.{⊎-elim}
 use Prim.Native.Nat.{ℕ, _+_, _-_, _*_, _<_, _≤_}
 use native.Mathlib.Omega.{arith}
-use borrow.Author.Tests.{ne-eqb}
-use lib.Dec.{leb, eqb}
+use lib.Dec.{leb}
 use lib.ListN.{length}
 use Rattle.lists.specs.Tests.{either, true-not-false, eq?}
 use Rattle.lists.specs.Lists.{allb, keep}
@@ -16,11 +15,9 @@ use Rattle.protocol.specs.Parts.{Job, State, Memory, on, at-home, every-chare, 
 use Rattle.protocol.specs.Restart.{filled-table, target-of}
 use Rattle.protocol.specs.Questions.{tables-fit}
 use Rattle.words.specs.Part.{part, put, part-put, part-before, put-length}
-use Rattle.head.specs.Head.{HEAD, job-of}
-use Rattle.head.specs.HeadLaws.{home-desk, home-beyond}
+use Rattle.head.specs.Head.{job-of}
 use Rattle.tickets.specs.Table.{entries}
 use Rattle.memory.specs.Places.{ROW}
-use Rattle.store.specs.Places.{STORE}
 use Rattle.store.specs.View.{view}
 use Rattle.store.specs.Visits.{chosen, visited, visit-none, visit-hit, visit-miss, visit-all}
 use Rattle.restart.specs.Limited.{held, limit, held-true, held-fits}
@@ -109,19 +106,6 @@ module _ (s : State) (p c : ℕ) (rows : List ℕ) (g : Going s p c rows) where
         where
           below : (i : ℕ) → i < c + 1 → (i ≡ c → ⊥) → i < c
           below i b n = omega arith
-
--- ---- only chares 1 to 12 are on a machine
-module _ (xs : List ℕ) (long : HEAD ≤ length xs) (p : ℕ) (named : 1 ≤ p) where
-  none : eqb 0 p ≡ false
-  none = ne-eqb 0 p (λ (q : 0 ≡ p). omega arith)
-
-  pub desk-not-on : on (job-of xs) p 0 ≡ false
-  unfolding on
-  desk-not-on = rw (home-desk xs) none
-
-  pub beyond-not-on : (c : ℕ) → 13 ≤ c → on (job-of xs) p c ≡ false
-  unfolding on
-  beyond-not-on c h = rw (home-beyond xs long c h) none
 
 -- ---- all chares of p come back
 unfoldable pub new-memory : State → List ℕ → ℕ → Memory

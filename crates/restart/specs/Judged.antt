@@ -9,10 +9,12 @@ use lib.ListN.{length}
 use Rattle.lists.specs.Questions.{asks, asks-no, asks-after, first-no, first-no-yes}
 use Rattle.protocol.specs.declared.Answer.{Answer}
 use Rattle.protocol.specs.declared.Answer.the-variants.{Accepted, Refused}
+use Rattle.protocol.specs.Frames.{between}
 use Rattle.protocol.specs.Parts.{State, is-down}
 use Rattle.protocol.specs.Restart.{restart}
 use Rattle.protocol.specs.Questions.{restart-questions, is-machine, tables-fit, wire-fits}
 use Rattle.protocol.specs.Step.{Outcome, judged}
+use Rattle.head.specs.Head.{job-of, lost-of}
 use Rattle.store.specs.View.{view, outcome, tried, Framed}
 
 -- the questions 2 to 5, and those behind them
@@ -31,7 +33,7 @@ module _ (s : State) (p : ℕ) where
   all-asked = refl
 
   module _ (n : ℕ) (e : n ≡ first-no 2 (asked s p)) where
-    early : n ≢ 0 → tried s (restart-questions s p) (restart s p) ≡ record { state = s; answer = Refused n }
+    pub early : n ≢ 0 → tried s (restart-questions s p) (restart s p) ≡ record { state = s; answer = Refused n }
     unfolding judged
     early h = all-asked ∙ rw (asks-no 2 (asked s p) rest end (λ z. h (e ∙ z)), ← e)
 
@@ -50,3 +52,9 @@ module _ (s : State) (p : ℕ) where
     pub all-fit : n ≡ 0 → tables-fit s p ≡ true → wire-fits (restart s p) ≡ true → tried s (restart-questions s p) (restart s p) ≡ record { state = restart s p; answer = Accepted }
     unfolding judged asks
     all-fit z a b = late z ∙ rw (a, b)
+
+-- as the code asks them
+pub asked-is : (xs : List ℕ) (p : ℕ) (set machine lost down : Bool) → set ≡ job-of xs .set → machine ≡ between 1 (job-of xs .machines) p → lost ≡ lost-of xs → down ≡ is-down (view xs .status p)
+    → (r : ℕ) → r ≡ first-no 2 (set ∷ machine ∷ not lost ∷ down ∷ []) → r ≡ first-no 2 (asked (view xs) p)
+unfolding asked is-machine view
+asked-is xs p set machine lost down a b c d r e = e ∙ rw (a, b, c, d)

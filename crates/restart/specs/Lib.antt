@@ -5,6 +5,7 @@ pub mod Ranges
 pub mod Fills
 pub mod Tables
 pub mod Stored
+pub mod OnMachine
 pub mod Sources
 pub mod Built
 pub mod Resends
@@ -13,3 +14,4 @@ pub mod Over
 pub mod Restored
 pub mod Homes
 pub mod Judged
+pub mod Whole

@@ -3,14 +3,11 @@
 use mathlib.Core.Path.{_≡_, refl, sym, ap, _∙_, fun-ext}
 use mathlib.Core.Bool.{Bool, true, false, cond}
 use mathlib.Core.List.{List, [], _∷_, map}
-use mathlib.Core.Logic.{⊎-elim}
 use Prim.Native.Nat.{ℕ, _+_, _<_, _≤_}
-use native.Mathlib.Omega.{arith}
 use native.Mathlib.Nat.{mod-eq-of-lt}
-use borrow.Author.Tests.{eqb-true, eq-eqb, ne-eqb, lt-ltb, le-ltb}
+use borrow.Author.Tests.{eq-eqb, ne-eqb, lt-ltb, le-ltb}
 use lib.Dec.{eqb, ltb}
-use lib.ListN.{length}
-use Rattle.lists.specs.Tests.{either, lt?}
+use Rattle.lists.specs.Tests.{either}
 use Rattle.lists.specs.Lists.{gather, sort}
 use Rattle.protocol.specs.declared.Content.{Content}
 use Rattle.protocol.specs.declared.Content.the-variants.{Ask as ASK, Data as DATA}
@@ -20,8 +17,7 @@ use Rattle.protocol.specs.declared.Packet.{Packet}
 use Rattle.protocol.specs.Parts.{State, on, at-home, every-sender}
 use Rattle.protocol.specs.Sending.{about}
 use Rattle.protocol.specs.Restart.{from-elsewhere, from-here, resend, resends, restore, restored, log-order}
-use Rattle.head.specs.Head.{HEAD, job-of}
-use Rattle.head.specs.HeadLaws.{home-beyond}
+use Rattle.head.specs.Head.{job-of}
 use Rattle.logs.specs.Log.{entries as messages}
 use Rattle.logs.specs.Fits.{Fits}
 use Rattle.packets.specs.Words.{fitted, fit-content}
@@ -92,13 +88,6 @@ module _ (xs : List ℕ) (p : ℕ) (x : Logged) where
     pub again-outside : packets-of (x .message) Nothing ≡ again (view xs) p false x
     unfolding view again packets-of
     again-outside = rw e
-
--- no chare past the last is on a machine
-pub on-small : (xs : List ℕ) (p c : ℕ) → HEAD ≤ length xs → 1 ≤ p → on (job-of xs) p c ≡ true → c < 13
-unfolding on
-on-small xs p c long named e = ⊎-elim (λ h. h)
-    (λ g. absurd (let z = eqb-true (job-of xs .home c) p e in omega (arith, home-beyond xs long c g)))
-    (lt? c 13)
 
 -- what fits a word goes out as it is
 module _ (x : Logged) (fits : Fits (x .message)) where

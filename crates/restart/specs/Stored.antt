@@ -1,12 +1,10 @@
 -- Logs, tables and heights of a store's view, by the places that they stand at.
 use mathlib.Core.Path.{_≡_, refl, sym, ap, _∙_}
-use mathlib.Core.Bool.{Bool}
 use mathlib.Core.List.{List}
 use Prim.Native.Nat.{ℕ, _+_, _-_, _≤_, _<_}
 use native.Mathlib.Omega.{arith}
 use lib.ListN.{take, drop}
 use lib.Seq.{drop-drop}
-use Rattle.protocol.specs.Parts.{on}
 use Rattle.words.specs.Part.{part}
 use Rattle.head.specs.Head.{job-of}
 use Rattle.head.specs.Kept.{part-front}
@@ -33,10 +31,6 @@ inner a n b e j xs h d = part-part a n b j xs h ∙ rw d
 pub job-at : (xs : List ℕ) → view xs .job ≡ job-of xs
 unfolding view
 job-at xs = refl
-
--- where chare c is, as the code finds it
-pub home-at : (xs : List ℕ) (p c : ℕ) (r b : Bool) → r ≡ on (job-of xs) p c → r ≡ b → on (view xs .job) p c ≡ b
-home-at xs p c r b e q = rw (job-at xs) (sym e ∙ q)
 
 module _ (xs : List ℕ) (c : ℕ) (h : c < 13) where
   pub live-log : view xs .live c .log ≡ logs.entries (span (live-from c + LOG) (live-from c + MEMORY) xs)

@@ -5,7 +5,8 @@ use lib.ListN.{length}
 use Rattle.store.specs.Places.{STORE}
 use Rattle.store.specs.View.{view}
 use Rattle.restart.specs.Stored.{job-at}
-use Rattle.restart.specs.Homes.{backs, backs-start, backs-all, loop-more, loop-skip, beyond-not-on}
+use Rattle.restart.specs.OnMachine.{beyond-not-on}
+use Rattle.restart.specs.Homes.{backs, backs-start, backs-all, loop-more, loop-skip}
 use borrow.Author.Needs.{needs}
 use Rattle.restart.proofs.back.all_back.Statement.{statement}
 use Rattle.restart.proofs.back.all_back.Tie as tie

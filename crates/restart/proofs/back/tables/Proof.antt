@@ -4,7 +4,7 @@ use native.Mathlib.Omega.{arith}
 use borrow.Author.Tests.{not-true, not-false}
 use lib.ListN.{length}
 use Rattle.store.specs.View.{view}
-use Rattle.restart.specs.Stored.{home-at}
+use Rattle.restart.specs.OnMachine.{home-at}
 use Rattle.restart.specs.Homes.{ROWS, Going, going-start, going-end, going-skip, going-stop, going-more}
 use borrow.Author.Needs.{needs}
 use Rattle.restart.proofs.back.tables.Statement.{statement}

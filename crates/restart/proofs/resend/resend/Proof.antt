@@ -1,4 +1,5 @@
-use Rattle.restart.specs.Resends.{again-inside, again-in, again-out, again-outside, on-small}
+use Rattle.restart.specs.OnMachine.{on-last}
+use Rattle.restart.specs.Resends.{again-inside, again-in, again-out, again-outside}
 use native.Mathlib.Omega.{arith}
 use mathlib.Core.Path.{sym, _∙_}
 use borrow.Author.Needs.{needs}
@@ -17,7 +18,7 @@ height-back-requires : tie.Need-height-back-requires
 height-back-requires c κs =
     let st = c .before .before .before .before .before in
     let a = st .args in
-    (st .pre .0, on-small (a .s .now) (a .p) (a .x .message .receiver) (omega arith) (st .pre .1) (sym (c .before .before .on .ensures) ∙ c .before .if1 .taken))
+    (st .pre .0, on-last (a .s .now) (omega arith) (a .p) (st .pre .1) (a .x .message .receiver) (sym (c .before .before .on .ensures) ∙ c .before .if1 .taken))
 
 from-elsewhere-requires : tie.Need-from-elsewhere-requires
 from-elsewhere-requires c κs = search needs

@@ -1,0 +1,63 @@
+use Rattle.head.specs.Head.{STATUS}
+use Prim.Native.Nat.{_+_}
+use lib.ListN.{length-set}
+use Rattle.restart.specs.Whole.{change-is}
+use native.Mathlib.Omega.{arith}
+use borrow.Author.Needs.{needs}
+use Rattle.restart.proofs.change.Statement.{statement}
+use Rattle.restart.proofs.change.Tie as tie
+
+add-s : tie.Need-add-s
+add-s c = search needs
+
+mul-s : tie.Need-mul-s
+mul-s c = search needs
+
+slice-write-s : tie.Need-slice-write-s
+slice-write-s c = search needs
+
+all-back-requires : tie.Need-all-back-requires
+all-back-requires c κs = search needs
+
+sub-copy-over : tie.Need-sub-copy-over
+sub-copy-over c = search needs
+
+part-copy-over-start : tie.Need-part-copy-over-start
+part-copy-over-start c = search needs
+
+part-copy-over-end : tie.Need-part-copy-over-end
+part-copy-over-end c =
+    let a = c .before .before .before .before .before .before .before .args in
+    let e = length-set (a .s .now) (STATUS + a .p) 2 in
+    search needs
+
+copy-over-requires : tie.Need-copy-over-requires
+copy-over-requires c κs = search needs
+
+same-length : tie.Need-same-length
+same-length c =
+    let a = c .before .before .before .before .before .before .before .before .before .before .before .args in
+    let e = length-set (a .s .now) (STATUS + a .p) 2 in
+    search needs
+
+returns : tie.Need-returns
+returns c =
+    let st = c .before .before .before .before .before .before .before .before .before .before .before in
+    let a = st .args in
+    let e = length-set (a .s .now) (STATUS + a .p) 2 in
+    change-is (a .s .now) _ (a .rows .now) (a .wire .now) _ (a .p) (st .pre .0) (omega arith) (search needs) (c .before .before .before .before .before .before .all-back .ensures) (st .pre .4) (c .before .before .copy-over .ensures)
+
+pub change-spec : {M : Type 1} → statement M
+change-spec =
+    tie.close
+    (tie.spec
+    add-s
+    mul-s
+    slice-write-s
+    all-back-requires
+    sub-copy-over
+    part-copy-over-start
+    part-copy-over-end
+    copy-over-requires
+    same-length
+    returns)
