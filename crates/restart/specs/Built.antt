@@ -1,7 +1,7 @@
 -- A table as it is built in an empty row: three walks that enter tickets, each from the table that the one before left, then the messages that fill.
 use mathlib.Core.Path.{_≡_, refl, sym, ap, _∙_}
 use mathlib.Core.Bool.{Bool, true, false}
-use mathlib.Core.List.{List, [], _++_, map}
+use mathlib.Core.List.{List, [], _++_}
 use Prim.Native.Nat.{ℕ, _+_, _<_}
 use native.Mathlib.Omega.{arith}
 use lib.Dec.{leb}
@@ -12,7 +12,7 @@ use Rattle.protocol.specs.Parts.{State, every-sender, every-chare}
 use Rattle.protocol.specs.Restart.{restored-table, filled-table, local-log}
 use Rattle.protocol.specs.Recovery.Laws.Filled.{length-filled-table}
 use Rattle.words.specs.Sift.{row-cut}
-use Rattle.tickets.specs.Table.{entry-of, entries}
+use Rattle.tickets.specs.Table.{entries}
 use Rattle.notelist.specs.Notes.{notes}
 use Rattle.memory.specs.Places.{TABLE, LOG, ROW, MEMORY}
 use Rattle.memory.specs.View.{memory-view}

@@ -1,5 +1,5 @@
 -- Restored log messages to local chares fill their entries: message by message, log by log.
-use mathlib.Core.Path.{_≡_, refl, sym, ap, _∙_}
+use mathlib.Core.Path.{_≡_, refl, sym, _∙_}
 use mathlib.Core.Bool.{true, false}
 use mathlib.Core.List.{List, [], _∷_, _++_}
 use Prim.Native.Nat.{ℕ, _%_, _<_}
@@ -24,7 +24,7 @@ module _ (c h : ℕ) where
   unfolding filling
   filling-append l a b = rw (keep-append (is-ticketed-above c h) a b) (fill-append l _ _)
 
-  pub filling-none : (l : List Entry) → filling c h l [] ≡ l
+  filling-none : (l : List Entry) → filling c h l [] ≡ l
   unfolding filling keep fill-all
   filling-none l = refl
 

@@ -32,7 +32,7 @@ module _ {A B : Type 0} where
   gather-each f [] = refl
   gather-each f (x ∷ l) = ap (f x ∷_) (gather-each f l)
 
-  pub gather-append : (g : A → List B) (a b : List A) → gather g (a ++ b) ≡ gather g a ++ gather g b
+  gather-append : (g : A → List B) (a b : List A) → gather g (a ++ b) ≡ gather g a ++ gather g b
   unfolding gather
   gather-append g [] b = refl
   gather-append g (x ∷ a) b = ap (g x ++_) (gather-append g a b) ∙ sym (append-assoc (g x) (gather g a) (gather g b))

@@ -1,6 +1,6 @@
 -- The chares of p take what they get back; the others stay. Their tables stand in rows, one a chare.
 use mathlib.Core.Path.{_≡_, refl, sym, ap, _∙_, fun-ext}
-use mathlib.Core.Bool.{Bool, true, false, not, cond, _||_}
+use mathlib.Core.Bool.{Bool, true, false, not, _||_}
 use mathlib.Core.List.{List, [], _∷_}
 use mathlib.Core.Logic.{⊎-elim}
 use Prim.Native.Nat.{ℕ, _+_, _-_, _*_, _<_, _≤_}
@@ -14,7 +14,8 @@ use Rattle.protocol.specs.declared.Entry.{Entry}
 use Rattle.protocol.specs.Parts.{Job, State, Memory, on, at-home, every-chare, with-live, with-status}
 use Rattle.protocol.specs.Restart.{filled-table, target-of}
 use Rattle.protocol.specs.Questions.{tables-fit}
-use Rattle.words.specs.Part.{part, put, part-put, part-before, put-length}
+use Rattle.arrays.specs.Loops.{allb-keep}
+use Rattle.words.specs.Part.{part, put, part-put, part-before}
 use Rattle.head.specs.Head.{job-of}
 use Rattle.tickets.specs.Table.{entries}
 use Rattle.memory.specs.Places.{ROW}
@@ -40,11 +41,6 @@ pub record AllTables (s : State) (p : ℕ) (rows : List ℕ) (r : Bool) : Type 0
 -- there is room for what chare c gets back, if it is on p
 unfoldable pub passes : State → ℕ → ℕ → Bool
 passes s p c = not (on (s .job) p c) || leb (length (filled-table s p c)) 16
-
-allb-keep : {A : Type 0} (f g : A → Bool) (l : List A) → allb f (keep g l) ≡ allb (λ x. not (g x) || f x) l
-unfolding allb keep
-allb-keep f g [] = refl
-allb-keep f g (x ∷ l) = either (g x) (λ e. rw (e, allb-keep f g l)) (λ e. rw (e, allb-keep f g l))
 
 -- the loop has passed the chares below c
 pub record Going (s : State) (p c : ℕ) (rows : List ℕ) : Type 0 where
@@ -159,18 +155,18 @@ module _ (s : State) (p : ℕ) (rows : List ℕ) where
     wire = s .wire;
   }
 
-  pub backs-job : (k : ℕ) → backs k .job ≡ s .job
+  backs-job : (k : ℕ) → backs k .job ≡ s .job
   unfolding backs
   backs-job k = refl
 
-  pub backs-more : (k : ℕ) → on (s .job) p k ≡ true → come-back (backs k) k (table-in rows k) ≡ backs (k + 1)
+  backs-more : (k : ℕ) → on (s .job) p k ≡ true → come-back (backs k) k (table-in rows k) ≡ backs (k + 1)
   unfolding backs come-back new-memory
   backs-more k e = rw (
     upto-hit (s .job) p (λ c t. target-of (renewed (s .copy c) (table-in rows c))) (s .target) k e,
     upto-hit (s .job) p (λ c m. renewed (s .copy c) (table-in rows c)) (s .live) k e,
   )
 
-  pub backs-skip : (k : ℕ) → on (s .job) p k ≡ false → backs k ≡ backs (k + 1)
+  backs-skip : (k : ℕ) → on (s .job) p k ≡ false → backs k ≡ backs (k + 1)
   unfolding backs
   backs-skip k e = rw (
     upto-miss (s .job) p (λ c t. target-of (new-memory s rows c)) (s .target) k e,

@@ -1,13 +1,10 @@
 -- A restart judged: the questions in order.
 use mathlib.Core.Path.{_≡_, refl, sym, ap, _∙_}
-use mathlib.Core.Bool.{Bool, true, false, cond, not}
+use mathlib.Core.Bool.{Bool, true, false, not}
 use mathlib.Core.List.{List, [], _∷_, _++_}
 use mathlib.Core.Logic.{_≢_}
 use Prim.Native.Nat.{ℕ}
-use native.Mathlib.Omega.{arith}
-use lib.ListN.{length}
 use Rattle.lists.specs.Questions.{asks, asks-no, asks-after, first-no, first-no-yes}
-use Rattle.protocol.specs.declared.Answer.{Answer}
 use Rattle.protocol.specs.declared.Answer.the-variants.{Accepted, Refused}
 use Rattle.protocol.specs.Frames.{between}
 use Rattle.protocol.specs.Parts.{State, is-down}
@@ -15,7 +12,7 @@ use Rattle.protocol.specs.Restart.{restart}
 use Rattle.protocol.specs.Questions.{restart-questions, is-machine, tables-fit, wire-fits}
 use Rattle.protocol.specs.Step.{Outcome, judged}
 use Rattle.head.specs.Head.{job-of, lost-of}
-use Rattle.store.specs.View.{view, outcome, tried, Framed}
+use Rattle.store.specs.View.{view, tried}
 
 -- the questions 2 to 5, and those behind them
 unfoldable pub asked : State → ℕ → List Bool

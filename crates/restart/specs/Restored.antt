@@ -1,10 +1,10 @@
 -- What a chare has after the restart: its copy, with another table and the top of that.
-use mathlib.Core.Path.{_≡_, refl, sym, ap, _∙_}
+use mathlib.Core.Path.{_≡_, sym, ap, _∙_}
 use mathlib.Core.List.{List}
-use Prim.Native.Nat.{ℕ, _+_, _-_, _%_, _<_, _≤_}
+use Prim.Native.Nat.{ℕ, _+_, _-_, _<_, _≤_}
 use native.Mathlib.Omega.{arith}
 use native.Mathlib.Nat.{mod-eq-of-lt}
-use lib.ListN.{length, getD, set, length-set}
+use lib.ListN.{length, set, length-set}
 use lib.Seq.{getD-set-same, getD-set-other}
 use Rattle.lists.specs.Map.{upd}
 use Rattle.protocol.specs.declared.Entry.{Entry}
@@ -26,7 +26,7 @@ unfoldable pub renewed : Memory → List Entry → Memory
 renewed m l = with-top (with-table m l) (highest (m .height) l)
 
 -- ---- a memory's words
-pub top-set : (ws : List ℕ) (t : ℕ) → length ws ≡ MEMORY → t < 65536 → memory-view (set ws TOP t) ≡ with-top (memory-view ws) t
+top-set : (ws : List ℕ) (t : ℕ) → length ws ≡ MEMORY → t < 65536 → memory-view (set ws TOP t) ≡ with-top (memory-view ws) t
 unfolding memory-view
 top-set ws t size small =
     let n = part 0 NUMBERS ws in
@@ -66,7 +66,7 @@ module _ (xs : List ℕ) (size : length xs ≡ STORE) (c : ℕ) (h : c < 13) whe
   copy-long : length (part (copy-from c) MEMORY xs) ≡ MEMORY
   copy-long = part-length (copy-from c) MEMORY xs (omega arith)
 
-  pub copied-length : length copied ≡ STORE
+  copied-length : length copied ≡ STORE
   copied-length = live-length xs size c h (part (copy-from c) MEMORY xs) copy-long
 
   -- the memory that is lent is the copy

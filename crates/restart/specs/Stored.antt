@@ -1,5 +1,5 @@
 -- Logs, tables and heights of a store's view, by the places that they stand at.
-use mathlib.Core.Path.{_≡_, refl, sym, ap, _∙_}
+use mathlib.Core.Path.{_≡_, refl, ap, _∙_}
 use mathlib.Core.List.{List}
 use Prim.Native.Nat.{ℕ, _+_, _-_, _≤_, _<_}
 use native.Mathlib.Omega.{arith}
@@ -22,7 +22,7 @@ abbrev pub span : ℕ → ℕ → List ℕ → List ℕ
 span a e xs = part a (e - a) xs
 
 -- a part of a part
-pub part-part : (a n b j : ℕ) (xs : List ℕ) → b + j ≤ n → part b j (part a n xs) ≡ part (a + b) j xs
+part-part : (a n b j : ℕ) (xs : List ℕ) → b + j ≤ n → part b j (part a n xs) ≡ part (a + b) j xs
 part-part a n b j xs h = part-front b j n (drop a xs) h ∙ ap (take j) (drop-drop b a xs)
 
 inner : (a n b e j : ℕ) (xs : List ℕ) → b + j ≤ n → e - (a + b) ≡ j → part b j (part a n xs) ≡ span (a + b) e xs

@@ -1,11 +1,11 @@
 -- A restart put together: the tables in rows, the wire beside the store, and the store changed by both.
 use mathlib.Core.Path.{_≡_, refl, sym, ap, _∙_, fun-ext}
 use mathlib.Core.Bool.{Bool, true, false, not}
-use mathlib.Core.List.{List, _∷_, [], _++_}
+use mathlib.Core.List.{List, _++_}
 use mathlib.Core.Logic.{_≢_}
 use Prim.Native.Nat.{ℕ, _+_, _<_, _≤_}
 use native.Mathlib.Omega.{arith}
-use lib.Dec.{eqb, leb}
+use lib.Dec.{eqb}
 use lib.ListN.{length, set}
 use Rattle.lists.specs.Tests.{either}
 use Rattle.lists.specs.Lists.{keep, gather}
@@ -16,18 +16,18 @@ use Rattle.protocol.specs.declared.Packet.{Packet}
 use Rattle.protocol.specs.declared.Status.the-variants.{CatchingUp}
 use Rattle.protocol.specs.Parts.{State, on, at-home, every-sender, with-status, with-wire, is-down}
 use Rattle.protocol.specs.Packets.{goes-to}
-use Rattle.protocol.specs.Restart.{restart, restore, restored, resends, target-of}
-use Rattle.protocol.specs.Questions.{restart-questions, is-machine, tables-fit, wire-fits}
+use Rattle.protocol.specs.Restart.{restart, restore, restored, target-of}
+use Rattle.protocol.specs.Questions.{restart-questions, is-machine, wire-fits}
 use Rattle.words.specs.Part.{part, put}
 use Rattle.head.specs.Head.{STATUS, as-status, job-of}
 use Rattle.packets.specs.Words.{packets}
 use Rattle.packets.specs.Fits.{packets-fit}
 use Rattle.store.specs.Places.{WIRE, PACKETS, STORE}
 use Rattle.store.specs.View.{view, outcome, tried, Framed}
-use Rattle.store.specs.ViewLaws.{status-set, wire-at, wire-put}
+use Rattle.store.specs.ViewLaws.{status-set, wire-put}
 use Rattle.store.specs.Framing.{machine-in}
 use Rattle.restart.specs.Limited.{held, limit, held-true, held-fits}
-use Rattle.restart.specs.OnMachine.{home-at, on-first, on-last}
+use Rattle.restart.specs.OnMachine.{on-first, on-last}
 use Rattle.restart.specs.Restored.{renewed}
 use Rattle.restart.specs.Homes.{AllTables, new-memory, all-back}
 use Rattle.restart.specs.Resends.{all-again, resends-is}

@@ -1,3 +1,4 @@
+-- `change` sets the status, then memories and targets, then the wire.
 use Rattle.head.specs.Head.{STATUS}
 use Prim.Native.Nat.{_+_}
 use lib.ListN.{length-set}

@@ -1,3 +1,4 @@
+-- `is_down` meets its contract: status by status.
 use Rattle.store.specs.View.{view}
 use Rattle.protocol.specs.Parts.{is-down}
 use borrow.Author.Needs.{needs}

@@ -1,3 +1,4 @@
+-- `judge` puts four questions.
 use Rattle.restart.specs.Judged.{asked-is}
 use borrow.Author.Needs.{needs}
 use Rattle.restart.proofs.judge.Statement.{statement}

@@ -1,3 +1,4 @@
+-- `restart` refuses before the store is changed, or changes it.
 use Rattle.restart.specs.Whole.{refuse-first, machine, refuse-tables, refuse-wire, accept}
 use borrow.Author.Tests.{not-true, not-false}
 use native.Mathlib.Omega.{arith}

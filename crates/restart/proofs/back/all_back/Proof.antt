@@ -1,3 +1,4 @@
+-- `all_back` goes through the chares. The loop: those below n are back.
 use mathlib.Core.Path.{_≡_, sym, _∙_}
 use Prim.Native.Nat.{_-_, _≤_}
 use native.Mathlib.Omega.{arith}

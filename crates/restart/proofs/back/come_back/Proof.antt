@@ -1,6 +1,6 @@
+-- `come_back` copies the memory, renews it and sets the target.
 use Rattle.restart.specs.Restored.{back-is, back-length}
 use Rattle.tickets.specs.Table.{entries}
-use lib.ListN.{length-set}
 use native.Mathlib.Omega.{arith}
 use mathlib.Core.Logic.{inr}
 use borrow.Author.Needs.{needs}

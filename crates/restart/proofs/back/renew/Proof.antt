@@ -1,5 +1,5 @@
+-- `renew` puts the table, then the top.
 use Rattle.restart.specs.Restored.{renew-memory, renew-target}
-use native.Mathlib.Omega.{arith}
 use borrow.Author.Needs.{needs}
 use Rattle.restart.proofs.back.renew.Statement.{statement}
 use Rattle.restart.proofs.back.renew.Tie as tie
@@ -39,9 +39,10 @@ returns c =
     let st = c .before .before .before .before .before .before .before .before .before .before in
     let a = st .args in
     let h = c .before .before .before .before .before .before .height in
-    let t = c .before .before .before .before .before .highest in
-    (renew-memory (a .m .now) (a .row .now) (h .result) (t .result) (st .pre .0) (st .pre .1) (h .ensures) (t .ensures) (search needs) _ (c .before .before .before .copy-over .ensures),
-    renew-target (a .m .now) (a .row .now) (h .result) (t .result) (st .pre .0) (st .pre .1) (h .ensures) (t .ensures) _ (c .target .ensures))
+    let t = c .before .before .before .before .before .highest in (
+      renew-memory (a .m .now) (a .row .now) (h .result) (t .result) (st .pre .0) (st .pre .1) (h .ensures) (t .ensures) (search needs) _ (c .before .before .before .copy-over .ensures),
+      renew-target (a .m .now) (a .row .now) (h .result) (t .result) (st .pre .0) (st .pre .1) (h .ensures) (t .ensures) _ (c .target .ensures),
+    )
 
 pub renew-spec : {M : Type 1} → statement M
 renew-spec =

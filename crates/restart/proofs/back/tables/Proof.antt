@@ -1,3 +1,4 @@
+-- `tables` goes through the chares. The loop: the tables below n are built.
 use mathlib.Core.Path.{_≡_}
 use Prim.Native.Nat.{_-_, _≤_}
 use native.Mathlib.Omega.{arith}

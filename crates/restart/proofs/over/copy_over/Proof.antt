@@ -1,3 +1,4 @@
+-- `copy_over` copies word by word: i words are there.
 use mathlib.Core.Path.{_≡_, refl}
 use Prim.Native.Nat.{_-_, _≤_}
 use native.Mathlib.Omega.{arith}

@@ -1,3 +1,4 @@
+-- `from_elsewhere` meets its contract, case by case.
 use Rattle.restart.specs.Resends.{ask-there, none-there, data-there}
 use borrow.Author.Needs.{needs}
 use Rattle.restart.proofs.resend.from_elsewhere.Statement.{statement}

@@ -1,3 +1,4 @@
+-- `from_here` meets its contract, case by case.
 use Rattle.restart.specs.Resends.{ask-here, none-here}
 use borrow.Author.Needs.{needs}
 use Rattle.restart.proofs.resend.from_here.Statement.{statement}

@@ -1,3 +1,4 @@
+-- `height_back` reads the copy.
 use Rattle.restart.specs.Stored.{copy-height}
 use mathlib.Core.Path.{sym, _∙_}
 use borrow.Author.Needs.{needs}

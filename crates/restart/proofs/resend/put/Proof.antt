@@ -1,3 +1,4 @@
+-- `put` joins the wire where there is room.
 use Rattle.protocol.specs.Sending.{about}
 use Rattle.restart.specs.Sent.{put-none, put-one, put-full}
 use Rattle.packets.specs.Words.{packets}

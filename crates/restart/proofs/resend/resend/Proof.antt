@@ -1,3 +1,4 @@
+-- `resend` goes by where receiver and sender are.
 use Rattle.restart.specs.OnMachine.{on-last}
 use Rattle.restart.specs.Resends.{again-inside, again-in, again-out, again-outside}
 use native.Mathlib.Omega.{arith}

@@ -1,3 +1,4 @@
+-- `resend_all` goes through the logs. The loop: those from q on are still to be sent.
 use mathlib.Core.Path.{_≡_}
 use Prim.Native.Nat.{_-_, _≤_}
 use native.Mathlib.Omega.{arith}
@@ -52,7 +53,7 @@ loop-again c =
       search needs,
       search needs,
       put-on (all-again (view (a .s .now)) (a .p)) _ (l .wire) _ (l .inv .2)
-      (l .q) _ (range-next 13 (l .q) (omega arith)) _ (f .result) (f .ensures) (not-false _ (c .if1 .left)),
+          (l .q) _ (range-next 13 (l .q) (omega arith)) _ (f .result) (f .ensures) (not-false _ (c .if1 .left)),
     )
 
 same-length-2 : tie.Need-same-length-2 Inv-loop μ-loop

@@ -1,3 +1,4 @@
+-- `resend_from` takes the log of the copy, or the live one.
 use Rattle.restart.specs.Resends.{all-here, all-there}
 use mathlib.Core.Path.{sym, _∙_}
 use borrow.Author.Needs.{needs}

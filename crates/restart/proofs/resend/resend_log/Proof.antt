@@ -1,3 +1,4 @@
+-- `resend_log` goes through a log. The loop: the messages from i on are still to be sent.
 use mathlib.Core.Path.{_≡_, refl}
 use Prim.Native.Nat.{_-_, _≤_}
 use native.Mathlib.Omega.{arith}
@@ -68,9 +69,9 @@ loop-again c =
       search needs,
       search needs,
       put-on (again (view (a .s .now)) (a .p) (a .here)) _ (l .wire) _ (l .inv .2)
-      (x .result) _ (next (messages (a .l .now)) (l .i) (x .result) (logged-of 0) (x .ensures) (omega arith)) (f .last .0) (f .result)
-      (put-again (x .result) (logged-fits (a .l .now) (l .i) (x .result) (x .ensures)) (view (a .s .now)) (a .p) (a .here) (o .result) (o .ensures) (packets (l .wire)) _ (f .ensures))
-      (not-false _ (c .if1 .left)),
+          (x .result) _ (next (messages (a .l .now)) (l .i) (x .result) (logged-of 0) (x .ensures) (omega arith)) (f .last .0) (f .result)
+          (put-again (x .result) (logged-fits (a .l .now) (l .i) (x .result) (x .ensures)) (view (a .s .now)) (a .p) (a .here) (o .result) (o .ensures) (packets (l .wire)) _ (f .ensures))
+          (not-false _ (c .if1 .left)),
     )
 
 same-length-2 : tie.Need-same-length-2 Inv-loop μ-loop

@@ -1,3 +1,4 @@
+-- `resend_sorted` sends a sorted copy of the log.
 use mathlib.Core.Path.{_∙_}
 use borrow.Author.Needs.{needs}
 use Rattle.restart.proofs.resend.resend_sorted.Statement.{statement}

@@ -1,3 +1,4 @@
+-- `fill_all` goes through the copied logs. The loop: those from q on still fill.
 use mathlib.Core.Path.{_≡_, refl, sym, _∙_}
 use Prim.Native.Nat.{_-_, _≤_}
 use native.Mathlib.Omega.{arith}
@@ -78,8 +79,8 @@ loop-again c =
       search needs,
       search needs,
       fill-on (a .c) (a .h) (local-log (view (a .s .now)) (a .p)) _ (entries (l .row)) _ (l .inv .3)
-      (l .q) _ (range-next 13 (l .q) (omega arith)) (entries (f .last .0))
-      (rw (local-here (a .s .now) (a .p) (l .q) (omega arith) here) (f .ensures)),
+          (l .q) _ (range-next 13 (l .q) (omega arith)) (entries (f .last .0))
+          (rw (local-here (a .s .now) (a .p) (l .q) (omega arith) here) (f .ensures)),
     )
 
 loop-less-2 : tie.Need-loop-less-2 Inv-loop μ-loop
@@ -94,7 +95,7 @@ loop-again-2 c =
       search needs,
       search needs,
       fill-skip (a .c) (a .h) (local-log (view (a .s .now)) (a .p)) _ (entries (l .row)) _ (l .inv .3)
-      (l .q) _ (range-next 13 (l .q) (omega arith)) (local-there (a .s .now) (a .p) (l .q) there),
+          (l .q) _ (range-next 13 (l .q) (omega arith)) (local-there (a .s .now) (a .p) (l .q) there),
     )
 
 same-length : tie.Need-same-length Inv-loop μ-loop

@@ -1,12 +1,11 @@
+-- `fill_from` fills from a log. The loop: the messages from i on still fill.
 use Rattle.restart.specs.Sources.{logged-fits}
 use Rattle.restart.specs.Gather.{next, past}
 use mathlib.Core.Path.{_≡_, refl, sym, _∙_}
 use Prim.Native.Nat.{_-_, _≤_}
 use native.Mathlib.Omega.{arith}
 use lib.ListN.{length, drop}
-use Rattle.lists.specs.Lists.{gather}
 use Rattle.tickets.specs.Table.{entries}
-use Rattle.memory.specs.Places.{ROW}
 use Rattle.logs.specs.Log.{entries as messages, logged-of}
 use Rattle.restart.specs.Fills.{filling, filled-on, filled-skip, filled-end}
 use borrow.Author.Needs.{needs}
@@ -49,8 +48,8 @@ loop-again c =
       search needs,
       search needs,
       filled-on (a .c) (a .h) _ (entries (l .row)) _ (l .inv .2)
-      (x .result) _ (next (messages (a .l .now)) (l .i) (x .result) (logged-of 0) (x .ensures) (omega arith))
-      (sym (c .before .before .before .before .before .before .is-above .ensures) ∙ c .before .before .before .before .before .if1 .taken) (logged-fits (a .l .now) (l .i) (x .result) (x .ensures) .hops) (entries (e .last .0)) (e .ensures),
+          (x .result) _ (next (messages (a .l .now)) (l .i) (x .result) (logged-of 0) (x .ensures) (omega arith))
+          (sym (c .before .before .before .before .before .before .is-above .ensures) ∙ c .before .before .before .before .before .if1 .taken) (logged-fits (a .l .now) (l .i) (x .result) (x .ensures) .hops) (entries (e .last .0)) (e .ensures),
     )
 
 loop-less-2 : tie.Need-loop-less-2 Inv-loop μ-loop
@@ -64,7 +63,7 @@ loop-again-2 c =
       search needs,
       search needs,
       filled-skip (a .c) (a .h) _ (entries (l .row)) _ (l .inv .2)
-      (x .result) _ (next (messages (a .l .now)) (l .i) (x .result) (logged-of 0) (x .ensures) (omega arith)) (sym (c .before .is-above .ensures) ∙ c .if1 .left),
+          (x .result) _ (next (messages (a .l .now)) (l .i) (x .result) (logged-of 0) (x .ensures) (omega arith)) (sym (c .before .is-above .ensures) ∙ c .if1 .left),
     )
 
 same-length : tie.Need-same-length Inv-loop μ-loop

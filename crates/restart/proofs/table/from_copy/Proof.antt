@@ -1,6 +1,7 @@
+-- `from_copy` enters the tickets of a copy. The loop: the entries from i on are still to be entered.
 use Rattle.restart.specs.Gather.{next, past}
 use borrow.Author.Tests.{not-true, not-false}
-use mathlib.Core.Path.{_≡_, refl, _∙_}
+use mathlib.Core.Path.{_≡_, refl}
 use Prim.Native.Nat.{_-_, _≤_}
 use native.Mathlib.Omega.{arith}
 use lib.ListN.{length, drop}
@@ -60,9 +61,9 @@ loop-again c =
       search needs,
       search needs,
       ticket-on copied _ (l .row) _ (l .inv .2)
-      (x .result) _ (next (entries (a .t .now)) (l .i) (x .result) (entry-of 0) (x .ensures) (omega arith))
-      (l .inv .1) _ _ _ (sender-fits (a .t .now) (l .i) (x .result) (x .ensures)) (copied-is (x .result))
-      (e .last .0) (e .result) (e .ensures) (not-false _ (c .if1 .left)),
+          (x .result) _ (next (entries (a .t .now)) (l .i) (x .result) (entry-of 0) (x .ensures) (omega arith))
+          (l .inv .1) _ _ _ (sender-fits (a .t .now) (l .i) (x .result) (x .ensures)) (copied-is (x .result))
+          (e .last .0) (e .result) (e .ensures) (not-false _ (c .if1 .left)),
     )
 
 same-length-2 : tie.Need-same-length-2 Inv-loop μ-loop

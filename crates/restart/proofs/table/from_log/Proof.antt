@@ -1,5 +1,5 @@
+-- `from_log` enters the tickets of a log. The loop: the messages from i on are still to be entered.
 use Rattle.restart.specs.Gather.{next, past}
-use Rattle.logs.specs.Fits.{at-fits}
 use borrow.Author.Tests.{not-true, not-false}
 use mathlib.Core.Path.{_≡_, refl, sym, _∙_}
 use Prim.Native.Nat.{_-_, _≤_}
@@ -65,9 +65,9 @@ loop-again c =
       search needs,
       search needs,
       ticket-on (logged (a .c) (a .h)) _ (l .row) _ (l .inv .2)
-      (x .result) _ (next (messages (a .l .now)) (l .i) (x .result) (logged-of 0) (x .ensures) (omega arith))
-      (l .inv .1) _ _ _ (logged-fits (a .l .now) (l .i) (x .result) (x .ensures) .sender) (logged-in (a .c) (a .h) (x .result) (sym (c .before .before .before .before .before .before .before .is-above .ensures) ∙ c .before .before .before .before .before .before .if1 .taken))
-      (e .last .0) (e .result) (e .ensures) (not-false _ (c .if2 .left)),
+          (x .result) _ (next (messages (a .l .now)) (l .i) (x .result) (logged-of 0) (x .ensures) (omega arith))
+          (l .inv .1) _ _ _ (logged-fits (a .l .now) (l .i) (x .result) (x .ensures) .sender) (logged-in (a .c) (a .h) (x .result) (sym (c .before .before .before .before .before .before .before .is-above .ensures) ∙ c .before .before .before .before .before .before .if1 .taken))
+          (e .last .0) (e .result) (e .ensures) (not-false _ (c .if2 .left)),
     )
 
 loop-less-2 : tie.Need-loop-less-2 Inv-loop μ-loop
@@ -81,7 +81,7 @@ loop-again-2 c =
       search needs,
       search needs,
       enter-skip (logged (a .c) (a .h)) _ (l .row) _ (l .inv .2)
-      (x .result) _ (next (messages (a .l .now)) (l .i) (x .result) (logged-of 0) (x .ensures) (omega arith)) (logged-out (a .c) (a .h) (x .result) (sym (c .before .is-above .ensures) ∙ c .if1 .left)),
+          (x .result) _ (next (messages (a .l .now)) (l .i) (x .result) (logged-of 0) (x .ensures) (omega arith)) (logged-out (a .c) (a .h) (x .result) (sym (c .before .is-above .ensures) ∙ c .if1 .left)),
     )
 
 same-length-2 : tie.Need-same-length-2 Inv-loop μ-loop

@@ -1,4 +1,5 @@
-use mathlib.Core.Path.{_≡_, refl, sym, _∙_}
+-- `from_logs` goes through the logs. The loop: those from q on are still to be entered.
+use mathlib.Core.Path.{_≡_, sym, _∙_}
 use Prim.Native.Nat.{_-_, _≤_}
 use native.Mathlib.Omega.{arith}
 use borrow.Author.Tests.{not-true, not-false}
@@ -92,9 +93,9 @@ loop-again c =
       search needs,
       search needs,
       enter-on (sender-tickets (view (a .s .now)) (a .p) (a .c) (a .h)) _ (l .row) _ (l .inv .2)
-      (l .q) _ (range-next 13 (l .q) (omega arith)) (f .last .0) (f .result)
-      (rw (sender-there (a .s .now) (a .p) (l .q) (omega arith) there (a .c) (a .h)) (f .ensures))
-      (not-false _ (c .if2 .left)),
+          (l .q) _ (range-next 13 (l .q) (omega arith)) (f .last .0) (f .result)
+          (rw (sender-there (a .s .now) (a .p) (l .q) (omega arith) there (a .c) (a .h)) (f .ensures))
+          (not-false _ (c .if2 .left)),
     )
 
 loop-less-2 : tie.Need-loop-less-2 Inv-loop μ-loop
@@ -108,7 +109,7 @@ loop-again-2 c =
       search needs,
       search needs,
       enter-skip (sender-tickets (view (a .s .now)) (a .p) (a .c) (a .h)) _ (l .row) _ (l .inv .2)
-      (l .q) _ (range-next 13 (l .q) (omega arith)) (sender-here (a .s .now) (a .p) (l .q) here (a .c) (a .h)),
+          (l .q) _ (range-next 13 (l .q) (omega arith)) (sender-here (a .s .now) (a .p) (l .q) here (a .c) (a .h)),
     )
 
 same-length-2 : tie.Need-same-length-2 Inv-loop μ-loop

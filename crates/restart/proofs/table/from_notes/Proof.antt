@@ -1,6 +1,7 @@
+-- `from_notes` enters the notes. The loop: those from i on are still to be entered.
 use Rattle.restart.specs.Gather.{next, past}
 use borrow.Author.Tests.{not-true, not-false}
-use mathlib.Core.Path.{_≡_, refl, _∙_}
+use mathlib.Core.Path.{_≡_, refl}
 use Prim.Native.Nat.{_-_, _≤_}
 use native.Mathlib.Omega.{arith}
 use lib.ListN.{length, drop}
@@ -61,9 +62,9 @@ loop-again c =
       search needs,
       search needs,
       ticket-on (noted (a .c) (a .h)) _ (l .row) _ (l .inv .2)
-      (x .result) _ (next (notes (a .w .now)) (l .i) (x .result) (note-of 0) (x .ensures) (omega arith))
-      (l .inv .1) _ _ _ (noted-fits (a .w .now) (l .i) (x .result) (x .ensures) .sender) (noted-in (a .c) (a .h) (x .result) (search needs) (search needs))
-      (e .last .0) (e .result) (e .ensures) (not-false _ (c .if3 .left)),
+          (x .result) _ (next (notes (a .w .now)) (l .i) (x .result) (note-of 0) (x .ensures) (omega arith))
+          (l .inv .1) _ _ _ (noted-fits (a .w .now) (l .i) (x .result) (x .ensures) .sender) (noted-in (a .c) (a .h) (x .result) (search needs) (search needs))
+          (e .last .0) (e .result) (e .ensures) (not-false _ (c .if3 .left)),
     )
 
 loop-less-2 : tie.Need-loop-less-2 Inv-loop μ-loop
@@ -77,7 +78,7 @@ loop-again-2 c =
       search needs,
       search needs,
       enter-skip (noted (a .c) (a .h)) _ (l .row) _ (l .inv .2)
-      (x .result) _ (next (notes (a .w .now)) (l .i) (x .result) (note-of 0) (x .ensures) (omega arith)) (noted-below (a .c) (a .h) (x .result) (search needs) (search needs)),
+          (x .result) _ (next (notes (a .w .now)) (l .i) (x .result) (note-of 0) (x .ensures) (omega arith)) (noted-below (a .c) (a .h) (x .result) (search needs) (search needs)),
     )
 
 loop-less-3 : tie.Need-loop-less-3 Inv-loop μ-loop
@@ -91,7 +92,7 @@ loop-again-3 c =
       search needs,
       search needs,
       enter-skip (noted (a .c) (a .h)) _ (l .row) _ (l .inv .2)
-      (x .result) _ (next (notes (a .w .now)) (l .i) (x .result) (note-of 0) (x .ensures) (omega arith)) (noted-other (a .c) (a .h) (x .result) (search needs)),
+          (x .result) _ (next (notes (a .w .now)) (l .i) (x .result) (note-of 0) (x .ensures) (omega arith)) (noted-other (a .c) (a .h) (x .result) (search needs)),
     )
 
 same-length-2 : tie.Need-same-length-2 Inv-loop μ-loop

@@ -1,4 +1,4 @@
-use mathlib.Core.Path.{refl}
+-- `is_above` asks for the receiver, then for the TN.
 use Rattle.restart.specs.Sources.{above-other, above-tn}
 use borrow.Author.Needs.{needs}
 use Rattle.restart.proofs.table.is_above.Statement.{statement}
