@@ -2,16 +2,16 @@
 use mathlib.Core.Path.{sym}
 use Prim.Native.Nat.{_≤_}
 use native.Mathlib.Omega.{arith}
-use borrow.Author.Needs.{needs}
 use lib.ListN.{length}
 use lib.Seq.{length-take-le}
 use Rattle.transcript.specs.Ends.{ended-fits}
+use borrow.Author.Needs.{needs}
 use Rattle.sitting.proofs.end.Statement.{statement}
 use Rattle.sitting.proofs.end.Tie as tie
 
 -- what was written lies within the buffer
-written : (c : tie.After-finish) → c .finish .result .written ≤ length (c .finish .last .1 .0)
-written c = let same = c .finish .kept .1 .0 in omega (arith, same, ended-fits _ _ _ _ (c .finish .ensures) same)
+written : (c : tie.After-finish) → c .finish .result .written ≤ length (c .finish .last .1 .1 .1 .0)
+written c = let same = c .finish .kept .1 .1 .1 .0 in omega (arith, same, ended-fits _ _ _ _ _ (c .finish .ensures) same)
 
 finish-requires : tie.Need-finish-requires
 finish-requires c κs = search needs
@@ -20,7 +20,7 @@ slice-reshare-prefix-write-all : tie.Need-slice-reshare-prefix-write-all
 slice-reshare-prefix-write-all c = written (c .before .before)
 
 slice-aggregate-write-all : tie.Need-slice-aggregate-write-all
-slice-aggregate-write-all c = let f = c .before .before .before in sym (length-take-le (f .finish .result .written) (f .finish .last .1 .0) (written f))
+slice-aggregate-write-all c = let f = c .before .before .before in sym (length-take-le (f .finish .result .written) (f .finish .last .1 .1 .1 .0) (written f))
 
 write-all-requires : tie.Need-write-all-requires
 write-all-requires c κs = search needs

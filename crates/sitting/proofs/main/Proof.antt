@@ -6,19 +6,16 @@ use Rattle.sitting.proofs.main.Statement.{statement}
 use Rattle.sitting.proofs.main.Tie as tie
 
 abbrev Inv-loop : tie.InvT-loop
-Inv-loop input₀ out₀ reader₀ more₀ turns₀ input out reader more turns = (length input ≡ 65536) × (length out ≡ 65536)
+Inv-loop input₀ out₀ s₀ line₀ len₀ more₀ turns₀ input out s line len more turns = (length input ≡ 65536) × (length out ≡ 65536)
 
 abbrev μ-loop : tie.MeasureT-loop
-μ-loop input₀ out₀ reader₀ more₀ turns₀ input out reader more turns = turns
+μ-loop input₀ out₀ s₀ line₀ len₀ more₀ turns₀ input out s line len more turns = turns
 
 large-buffer-requires : tie.Need-large-buffer-requires Inv-loop μ-loop
 large-buffer-requires c κs = search needs
 
 large-buffer-requires-2 : tie.Need-large-buffer-requires-2 Inv-loop μ-loop
 large-buffer-requires-2 c κs = search needs
-
-begin-requires : tie.Need-begin-requires Inv-loop μ-loop
-begin-requires c κs = search needs
 
 loop-holds : tie.Need-loop-holds Inv-loop μ-loop
 loop-holds c = search needs
@@ -55,7 +52,6 @@ main-spec =
     μ-loop
     large-buffer-requires
     large-buffer-requires-2
-    begin-requires
     loop-holds
     slice-aggregate-turn
     slice-aggregate-turn-2
