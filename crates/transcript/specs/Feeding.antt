@@ -9,7 +9,7 @@ use Rattle.protocol.specs.Parts as parts
 use Rattle.protocol.specs.Frames.{Line}
 use Rattle.protocol.specs.Step.{Outcome, step}
 use Rattle.transcript.specs.Reading.{Reading, LINE, line-room, answer-room, within, printed, read-all, output, takes}
-use Rattle.transcript.specs.Pieces.{read-append, output-append}
+use Rattle.transcript.specs.Pieces.{read-append, output-append, kept-step}
 use Rattle.transcript.specs.Copies.{put-at}
 use Rattle.transcript.specs.Printed.{printed-fits}
 use Rattle.transcript.specs.LineWise.{line-end, line-end-le, line-part, read-part, silent-part, takes-part, takes-nil, takes-none, read-line, line-output, takes-line}
@@ -110,24 +110,27 @@ module _ (r : Reading) (input out₀ : List ℕ) (now : Reading) (t w : ℕ) (ou
   pub no-room : Fed-so-far r input out₀ now t w out → length out₀ - w < answer-room → t ≡ takes (length out₀) r input
   no-room inv h = sym (inv .rest ∙ rw (takes-none (length out₀ - w) now (drop t input) h) (omega arith))
 
--- ---- a turn of the loop, up to `end`, before the next newline; the piece is what the slice from t to `end` holds
-module _ (r : Reading) (input out₀ : List ℕ) (s : parts.State) (l : Line) (t w : ℕ) (out : List ℕ) (inv : Fed-so-far r input out₀ (within s l) t w out) (room : answer-room ≤ length out₀ - w)
-    (n : ℕ) (is-end : n ≡ line-end (drop t input)) where
-  is-part : take (t + n - t) (drop t input) ≡ line-part (drop t input)
-  is-part = let e : t + n - t ≡ line-end (drop t input) = omega arith in ap (λ k. take k (drop t input)) e
+-- what is kept of a line, in an array of just that room
+pub kept-part : (room : ℕ) (l : Line) (t n : ℕ) (input : List ℕ) (kept : Line) → room ≡ LINE → n ≡ line-end (drop t input) → kept ≡ take room (l ++ take (t + n - t) (drop t input))
+    → kept ≡ take line-room (l ++ line-part (drop t input))
+unfolding line-room
+kept-part room l t n input kept e f g = let d : t + n - t ≡ line-end (drop t input) = omega arith in g ∙ rw (e, d)
 
+-- ---- a turn of the loop: `kept` is what is kept of the line up to `end`, before the next newline
+module _ (r : Reading) (input out₀ : List ℕ) (s : parts.State) (l : Line) (t w : ℕ) (out : List ℕ) (inv : Fed-so-far r input out₀ (within s l) t w out) (room : answer-room ≤ length out₀ - w)
+    (kept : Line) (is-kept : kept ≡ take line-room (l ++ line-part (drop t input))) (end : ℕ) (is-end : end ≡ t + line-end (drop t input)) where
   -- the line ends there, and its answer is put
-  pub fed-turn : t + n < length input → (o : Outcome) → o ≡ step s (l ++ take (t + n - t) (drop t input)) → (k : ℕ) (next : List ℕ) → k ≡ length (printed (o .answer)) → next ≡ put-at out w (printed (o .answer))
-      → Fed-so-far r input out₀ (within (o .state) []) (t + n + 1) (w + k) next
-  fed-turn h o is-step k next is-long is-put =
-      let e : t + n + 1 ≡ t + suc (line-end (drop t input)) = omega arith in
-      let f : o ≡ step s (l ++ line-part (drop t input)) = is-step ∙ ap (λ p. step s (l ++ p)) is-part in
+  pub fed-turn : end < length input → (o : Outcome) → o ≡ step s kept → (n : ℕ) (next : List ℕ) → n ≡ length (printed (o .answer)) → next ≡ put-at out w (printed (o .answer))
+      → Fed-so-far r input out₀ (within (o .state) []) (end + 1) (w + n) next
+  fed-turn h o is-step n next is-long is-put =
+      let e : end + 1 ≡ t + suc (line-end (drop t input)) = omega arith in
+      let f : o ≡ step s (l ++ line-part (drop t input)) = is-step ∙ ap (step s) is-kept ∙ kept-step s (l ++ line-part (drop t input)) in
       rw (is-long, is-put, e, f) (fed-line r input out₀ s l t w out inv room (omega (arith, length-drop t input)))
 
-  -- the input ends first; `kept` is what is kept of the line, in an array of just that room
-  pub fed-stop : t + n ≡ length input → (size : ℕ) (kept : Line) → size ≡ LINE → kept ≡ take size (l ++ take (t + n - t) (drop t input)) → Fed-so-far r input out₀ (within s kept) (t + n) w out
-  unfolding within line-room
-  fed-stop h size kept long is =
-      let none : length (drop t input) ≤ line-end (drop t input) = omega (arith, length-drop t input) in
-      let all : line-part (drop t input) ≡ drop t input = take-all (line-end (drop t input)) (drop t input) none in
-      rw (h, is, long, is-part, take-take LINE LINE (l ++ line-part (drop t input)) (omega arith), all) (fed-rest r input out₀ s l t w out inv room none)
+  -- the input ends first
+  pub fed-stop : end ≡ length input → Fed-so-far r input out₀ (within s kept) end w out
+  unfolding within
+  fed-stop h =
+      let n : length (drop t input) ≤ line-end (drop t input) = omega (arith, length-drop t input) in
+      let all : line-part (drop t input) ≡ drop t input = take-all (line-end (drop t input)) (drop t input) n in
+      rw (h, is-kept, take-take line-room line-room (l ++ line-part (drop t input)) (omega arith), all) (fed-rest r input out₀ s l t w out inv room n)

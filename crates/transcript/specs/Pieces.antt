@@ -14,7 +14,7 @@ use Rattle.protocol.specs.Frames.{Line}
 use Rattle.protocol.specs.Lines.{newline, extend, lines, line, print}
 use Rattle.engine.specs.LongLine.{long-line}
 use Rattle.protocol.specs.Step.{step, answers-from, answers}
-use Rattle.transcript.specs.Reading.{Reading, LINE, line-room, within, beginning, printed, read-byte, byte-output, read-all, output, is-empty, last-output}
+use Rattle.transcript.specs.Reading.{Reading, line-room, within, beginning, printed, read-byte, byte-output, read-all, output, is-empty, last-output}
 
 -- ---- pieces
 pub read-cons : (r : Reading) (b : ℕ) (i : List ℕ) → read-all r (b ∷ i) ≡ read-all (read-byte r b) i
@@ -88,11 +88,6 @@ kept-step s l = elim (lt? line-room (length l)) [
   | inl h ↦ long-line s (take line-room l) (unfold line-room in omega (arith, length-take line-room l)) ∙ sym (long-line s l (unfold line-room in omega arith))
   | inr h ↦ ap (step s) (take-all line-room l h)
 ]
-
--- a line of which n bytes came before, in an array of just that room
-pub kept-line : (s : parts.State) (line piece : Line) (n k : ℕ) (kept : Line) → length line ≡ LINE → take k kept ≡ take (length line) (take n line ++ piece) → step s (take k kept) ≡ step s (take n line ++ piece)
-unfolding line-room
-kept-line s line piece n k kept long e = ap (step s) (e ∙ rw long) ∙ kept-step s (take n line ++ piece)
 
 pub kept-empty : (s : parts.State) (l : Line) → is-empty (within s l .line) ≡ is-empty l
 unfolding within is-empty line-room

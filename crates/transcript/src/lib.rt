@@ -4,9 +4,7 @@ ghost use mathlib.Core.Path.{_≡_};
 ghost use mathlib.Core.List.{_++_};
 ghost use Prim.Native.Nat.{_+_, _≤_, min};
 ghost use lib.ListN.{length, take};
-ghost use Rattle.protocol.specs.Step.{step};
 ghost use Rattle.store.specs.Places.{STORE};
-ghost use Rattle.store.specs.View.{view, outcome};
 ghost use Rattle.transcript.specs.Reading.{printed, LINE};
 ghost use Rattle.transcript.specs.LineWise.{line-end};
 ghost use Rattle.transcript.specs.Copies.{put-at};
@@ -82,19 +80,6 @@ fn put(out: &mut [u8], at: usize, answer: Answer) -> usize
     n
 }
 
-// Plays a line that ends with this piece; where none of it came before, from the input itself.
-fn play(s: &mut [u64], line: &mut [u8], n: usize, piece: &[u8]) -> Answer
-    requires { ⌜ length (now s) ≡ STORE ⌝ }
-    requires { ⌜ (length (now line) ≡ LINE) × (n ≤ LINE) ⌝ }
-    ensures { λ r. ⌜ outcome (now (s .exit)) r ≡ step (view (now (s .entry))) (take n (now (line .entry)) ++ now (piece .entry)) ⌝ }
-{
-    if n == 0 {
-        return engine::step_on(s, piece);
-    }
-    let k = keep(line, n, piece);
-    engine::step_on(s, &line[..k])
-}
-
 // Takes bytes of the input while there is room for one more answer in the buffer.
 fn feed_on(s: &mut [u64], line: &mut [u8], n: usize, input: &[u8], out: &mut [u8]) -> Fed
     requires { ⌜ length (now s) ≡ STORE ⌝ }
@@ -113,15 +98,15 @@ fn feed_on(s: &mut [u64], line: &mut [u8], n: usize, input: &[u8], out: &mut [u8
             };
         }
         let end = taken + line_end(&input[taken..]);
+        len = keep(line, len, &input[taken..end]);
         if end == input.len() {
-            len = keep(line, len, &input[taken..end]);
             return Fed {
                 len,
                 taken: end,
                 written,
             };
         }
-        let a = play(s, line, len, &input[taken..end]);
+        let a = engine::step_on(s, &line[..len]);
         written += put(out, written, a);
         taken = end + 1;
         len = 0;

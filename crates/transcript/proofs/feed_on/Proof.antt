@@ -1,16 +1,18 @@
 -- `feed_on`: the invariant is that what was taken so far is read, and its answers written.
-use mathlib.Core.Path.{_≡_, ap, _∙_}
+use mathlib.Core.List.{_++_}
+use mathlib.Core.Path.{_≡_, sym, ap, _∙_}
 use Prim.Native.Nat.{_+_, _-_, _≤_, _<_}
 use native.Mathlib.Omega.{arith}
 use borrow.Author.Needs.{needs}
 use lib.ListN.{length, take, drop, length-drop}
+use lib.Seq.{length-take-le}
 use Rattle.store.specs.Places.{STORE}
 use Rattle.store.specs.View.{view, outcome}
-use Rattle.transcript.specs.Reading.{LINE, within}
-use Rattle.transcript.specs.LineWise.{line-end, line-end-le, line-end-rest}
+use Rattle.transcript.specs.Reading.{LINE, line-room, within}
+use Rattle.transcript.specs.LineWise.{line-end, line-end-le, line-end-rest, line-part}
 use Rattle.transcript.specs.Copies.{take-min}
 use Rattle.transcript.specs.Printed.{printed-fits}
-use Rattle.transcript.specs.Feeding.{Fed-so-far, nothing-yet, fed-turn, fed-stop, at-end, no-room}
+use Rattle.transcript.specs.Feeding.{Fed-so-far, nothing-yet, fed-turn, fed-stop, at-end, no-room, kept-part}
 use Rattle.transcript.specs.View.{reading, fed}
 use Rattle.transcript.proofs.feed_on.Statement.{statement}
 use Rattle.transcript.proofs.feed_on.Tie as tie
@@ -41,6 +43,9 @@ opened c = let a = start c .args in ap (within (view (a .s .now))) (ap (λ k. ta
 found : (c : at tie.After-line-end) → let p = c .before .before .before in c .line-end .result ≡ line-end (drop (p .loop .taken) (start p .args .input .now))
 found c = let p = c .before .before .before in line-end-rest (p .loop .taken) (start p .args .input .now) (c .line-end .result) (c .line-end .ensures)
 
+is-end : (c : at tie.After-line-end) → let p = c .before .before .before in p .loop .taken + c .line-end .result ≡ p .loop .taken + line-end (drop (p .loop .taken) (start p .args .input .now))
+is-end c = ap (c .before .before .before .loop .taken +_) (found c)
+
 there : (c : at tie.After-line-end) → let p = c .before .before .before in p .loop .taken + c .line-end .result ≤ length (start p .args .input .now)
 there c =
     let p = c .before .before .before in
@@ -48,15 +53,37 @@ there c =
     let i = start p .args .input .now in
     omega (arith, found c, line-end-le (drop (l .taken) i), length-drop (l .taken) i, l .inv .4 .within-input)
 
--- the turn that ends at c
-abbrev turn : at tie.After-slice-known7 → at tie.Else2
-turn c = c .before .before .before .before .before .before .before .before .before .before .before .before
+-- what is kept of the line
+kept : (c : at tie.After-keep) → let p = c .before .before .before .before .before .before in
+    take (c .keep .result) (c .keep .last .0) ≡ take line-room (take (p .loop .len) (p .loop .line) ++ line-part (drop (p .loop .taken) (start p .args .input .now)))
+kept c =
+    let e = c .before .before .before in
+    let p = e .before .before .before in
+    let l = p .loop in
+    kept-part (length (l .line)) (take (l .len) (l .line)) (l .taken) (e .line-end .result) (start p .args .input .now) _ (l .inv .1) (found e) (c .keep .ensures .1)
 
-ends : (c : at tie.Else2) → let p = c .before .before .before .before in p .loop .taken + c .before .line-end .result < length (start p .args .input .now)
-ends c = omega (arith, there (c .before), c .if2 .left)
+kept-long : (c : at tie.After-keep) → length (c .keep .last .0) ≡ LINE
+kept-long c = c .keep .kept .0 ∙ c .before .before .before .before .before .before .loop .inv .1
+
+kept-len : (c : at tie.After-keep) → c .keep .result ≤ LINE
+kept-len c = omega (arith, c .keep .ensures .0, c .before .before .before .before .before .before .loop .inv .1)
+
+kept-count : (c : at tie.After-keep) → c .keep .result ≡ length (take (c .keep .result) (c .keep .last .0))
+kept-count c = sym (length-take-le (c .keep .result) (c .keep .last .0) (omega (arith, kept-len c, kept-long c)))
+
+-- the line ends before the input does
+abbrev kept-place : at tie.Else2 → at tie.After-keep
+kept-place c = c .before .before .before
+
+ends : (c : at tie.Else2) → let e = kept-place c .before .before .before in let p = e .before .before .before in p .loop .taken + e .line-end .result < length (start p .args .input .now)
+ends c = omega (arith, there (kept-place c .before .before .before), c .if2 .left)
+
+-- the line of the turn that ends at c
+abbrev line-place : at tie.After-slice-known6 → at tie.Else2
+line-place c = c .before .before .before .before .before .before .before .before .before
 
 answer-fits : (c : at tie.After-put) → c .put .result ≤ 15
-answer-fits c = omega (arith, c .put .ensures .0, printed-fits (c .before .before .before .before .before .before .play .result))
+answer-fits c = omega (arith, c .put .ensures .0, printed-fits (c .before .before .before .before .step-on .result))
 
 -- ---- what is asked
 least-requires : at tie.Need-least-requires
@@ -104,7 +131,7 @@ part-keep-start : at tie.Need-part-keep-start
 part-keep-start c = search needs
 
 part-keep-end : at tie.Need-part-keep-end
-part-keep-end c = there (c .before .before)
+part-keep-end c = there (c .before)
 
 keep-requires : at tie.Need-keep-requires
 keep-requires c κs = search needs
@@ -120,57 +147,54 @@ same-length-6 c = search needs
 
 returns-2 : at tie.Need-returns-2
 returns-2 c =
-    let k = c .before .before in
-    let x = k .before .before .before in
-    let e = x .before in
+    let k = c .before .before .before in
+    let e = k .before .before .before in
     let p = e .before .before .before in
     let l = p .loop in
-    let inv = fed-stop _ _ _ _ _ _ _ _ (l .inv .4) (roomy (e .before .before)) _ (found e) (x .if2 .taken) _ _ (l .inv .1) (k .keep .ensures .1) in
-    fed _ _ (opened p) _ _ _ _ _ _ _ _ inv (at-end _ _ _ _ _ _ _ inv (x .if2 .taken))
+    let inv = fed-stop _ _ _ _ _ _ _ _ (l .inv .4) (roomy (e .before .before)) _ (kept k) _ (is-end e) (c .if2 .taken) in
+    fed _ _ (opened p) _ _ _ _ _ _ _ _ inv (at-end _ _ _ _ _ _ _ inv (c .if2 .taken))
 
-sub-play : at tie.Need-sub-play
-sub-play c = search needs
+slice-reshare-prefix-step-on : at tie.Need-slice-reshare-prefix-step-on
+slice-reshare-prefix-step-on c = search needs
 
-part-play-start : at tie.Need-part-play-start
-part-play-start c = search needs
+slice-aggregate-step-on : at tie.Need-slice-aggregate-step-on
+slice-aggregate-step-on c = kept-count (kept-place (c .before .before))
 
-part-play-end : at tie.Need-part-play-end
-part-play-end c = there (c .before .before .before)
-
-play-requires : at tie.Need-play-requires
-play-requires c κs = search needs
+step-on-requires : at tie.Need-step-on-requires
+step-on-requires c κs = search needs
 
 put-requires : at tie.Need-put-requires
 put-requires c κs = search needs
 
 add-written : at tie.Need-add-written
 add-written c =
-    let x = turn c in
-    let p = x .before .before .before .before in
-    omega (arith, roomy (x .before .before .before), answer-fits (c .before .before), p .loop .inv .3, start p .good)
+    let x = line-place c in
+    let p = x .before .before .before .before .before .before .before .before .before in
+    omega (arith, roomy (x .before .before .before .before .before .before .before .before), answer-fits (c .before .before), p .loop .inv .3, start p .good)
 
 add-taken : at tie.Need-add-taken
 add-taken c =
-    let x = turn c in
-    omega (arith, ends x, start (x .before .before .before .before) .good)
+    let x = line-place c in
+    omega (arith, ends x, start (x .before .before .before .before .before .before .before .before .before) .good)
 
 loop-less : at tie.Need-loop-less
-loop-less c = omega (arith, ends (turn c))
+loop-less c = omega (arith, ends (line-place c))
 
 loop-again : at tie.Need-loop-again
 unfolding outcome
 loop-again c =
     let u = c .before .before in
-    let x = turn c in
-    let g = u .before .before .before .before .before .before in
-    let e = x .before in
+    let g = u .before .before .before .before in
+    let x = g .before .before .before in
+    let k = kept-place x in
+    let e = k .before .before .before in
     let p = e .before .before .before in
     let l = p .loop in (
-      g .play .kept .0 ∙ l .inv .0,
-      g .play .kept .1 .0 ∙ l .inv .1,
+      g .step-on .kept .0 ∙ l .inv .0,
+      kept-long k,
       omega arith,
       u .put .kept .0 ∙ l .inv .3,
-      fed-turn _ _ _ _ _ _ _ _ (l .inv .4) (roomy (e .before .before)) _ (found e) (ends x) _ (g .play .ensures) _ _ (u .put .ensures .0) (u .put .ensures .1),
+      fed-turn _ _ _ _ _ _ _ _ (l .inv .4) (roomy (e .before .before)) _ (kept k) _ (is-end e) (ends x) _ (g .step-on .ensures .gives) _ _ (u .put .ensures .0) (u .put .ensures .1),
     )
 
 pub feed-on-spec : {M : Type 1} → statement M
@@ -199,10 +223,9 @@ feed-on-spec =
     same-length-5
     same-length-6
     returns-2
-    sub-play
-    part-play-start
-    part-play-end
-    play-requires
+    slice-reshare-prefix-step-on
+    slice-aggregate-step-on
+    step-on-requires
     put-requires
     add-written
     add-taken
