@@ -1,6 +1,6 @@
 -- An entry's message worked on the four words of a memory, and the first question that refuses it.
 use mathlib.Core.Path.{_≡_, sym, _∙_}
-use mathlib.Core.Bool.{true, false}
+use mathlib.Core.Bool.{true, false, _&&_}
 use mathlib.Core.List.{List, [], _∷_}
 use Prim.Native.Nat.{ℕ, _+_, _%_, _<_, _≤_}
 use native.Mathlib.Omega.{arith}
@@ -18,7 +18,7 @@ use Rattle.memory.specs.declared.Numbers.{Numbers}
 use Rattle.memory.specs.Numbers.{taken, with-numbers}
 use Rattle.memory.specs.View.{memory-view, state-at, height-at, mark-at, window-at}
 use Rattle.sends.specs.declared.entry.Worked.{Worked}
-use Rattle.sends.specs.Works.{is-ready, own-questions}
+use Rattle.sends.specs.Works.{own-questions}
 
 -- x are words that m has for the sender s
 pub record NumbersOf (m : Memory) (s : ℕ) (x : Numbers) : Type 0 where
@@ -48,12 +48,12 @@ module _ (x : Numbers) (e : Entry) where
   refused-as : (n : ℕ) → 0 < n → ((m : Memory) → NumbersOf m (e .sender) x → n ≡ first-no 6 (own-questions m e)) → WorkedAs x e (record { answer = n; numbers = x })
   refused-as n p q = record { answer = q; memory = λ m is z. absurd (omega arith); small = λ z. absurd (omega arith) }
 
-  pub not-ready : is-ready e ≡ false → WorkedAs x e (record { answer = 6; numbers = x })
+  pub not-ready : (e .received && e .noted) ≡ false → WorkedAs x e (record { answer = 6; numbers = x })
   unfolding first-no own-questions
   not-ready f = refused-as 6 (omega arith) (λ m is. rw f)
 
   -- h is the height
-  module _ (f : is-ready e ≡ true) (h : ℕ) (h-is : h ≡ x .height % 65536) where
+  module _ (f : (e .received && e .noted) ≡ true) (h : ℕ) (h-is : h ≡ x .height % 65536) where
     pub too-high : 60000 ≤ h → WorkedAs x e (record { answer = 7; numbers = x })
     unfolding first-no own-questions
     too-high g = refused-as 7 (omega arith) (λ m is.

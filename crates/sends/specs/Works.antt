@@ -10,7 +10,7 @@ use Rattle.protocol.specs.declared.Entry.{Entry}
 use Rattle.protocol.specs.declared.Answer.the-variants.{Accepted, Refused}
 use Rattle.protocol.specs.Parts as parts
 use Rattle.protocol.specs.Working.{next-entry, worked-only, work-next, value-out, hops-out, receivers-of}
-use Rattle.protocol.specs.Questions.{is-chare, mark-after, has-mark, work-questions, entry-questions, put-to-sends}
+use Rattle.protocol.specs.Questions.{is-chare, mark-after, work-questions, entry-questions, put-to-sends}
 use Rattle.protocol.specs.Step.{Outcome, judged}
 use Rattle.head.specs.Head.{runs, chare-asked}
 use Rattle.store.specs.View.{tried}
@@ -30,13 +30,9 @@ chare-questions s c = chare-asked (s .job) (s .lost) (s .status) c
 unfoldable pub tried-work : parts.State → ℕ → Option Entry → Outcome
 tried-work s c o = judged s (asks 6 (entry-questions s c o) (record { state = worked-state s c o; answer = Accepted }))
 
--- 6
-unfoldable pub is-ready : Entry → Bool
-is-ready e = has-mark e && (e .received && e .noted)
-
 -- 6, and 7 of the chare that works
 unfoldable pub own-questions : parts.Memory → Entry → List Bool
-own-questions m e = is-ready e ∷ (leb (m .height + 1) 60000 && leb (mark-after m e) 60000) ∷ []
+own-questions m e = (e .received && e .noted) ∷ (leb (m .height + 1) 60000 && leb (mark-after m e) 60000) ∷ []
 
 module _ (s : parts.State) (c : ℕ) where
   pub work-tried : first-no 2 (chare-questions s c) ≡ 0 → tried s (work-questions s c) (worked-state s c (next-entry (s .live c))) ≡ tried-work s c (next-entry (s .live c))
@@ -53,9 +49,9 @@ module _ (s : parts.State) (c : ℕ) where
 
   module _ (e : Entry) where
     pub own-refused : (first-no 6 (own-questions (s .live c) e) ≡ 0 → ⊥) → tried-work s c (some e) ≡ record { state = s; answer = Refused (first-no 6 (own-questions (s .live c) e)) }
-    unfolding tried-work entry-questions own-questions is-ready
-    own-refused h = part-stopped s _ _ 6 (is-ready e) (leb (s .live c .height + 1) 60000) (leb (mark-after (s .live c) e) 60000) _ h
+    unfolding tried-work entry-questions own-questions
+    own-refused h = part-stopped s _ _ 6 ((e .received && e .noted)) (leb (s .live c .height + 1) 60000) (leb (mark-after (s .live c) e) 60000) _ h
 
     pub own-passed : first-no 6 (own-questions (s .live c) e) ≡ 0 → tried-work s c (some e) ≡ tried-sends s (worked-only s c e) c (receivers-of s c e) (value-out s c e) (hops-out e)
-    unfolding tried-work tried-sends entry-questions own-questions is-ready worked-state work-next put-to-sends sends-questions
-    own-passed h = part-passed s _ _ 5 (is-ready e) (leb (s .live c .height + 1) 60000) (leb (mark-after (s .live c) e) 60000) _ h
+    unfolding tried-work tried-sends entry-questions own-questions worked-state work-next put-to-sends sends-questions
+    own-passed h = part-passed s _ _ 5 ((e .received && e .noted)) (leb (s .live c .height + 1) 60000) (leb (mark-after (s .live c) e) 60000) _ h

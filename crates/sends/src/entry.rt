@@ -1,7 +1,6 @@
 // An entry's message worked: the four words of the memory afterwards, or the question that refuses it.
 ghost use mathlib.Core.Path.{_≡_};
 ghost use Rattle.sends.specs.Worked.{WorkedAs};
-ghost use Rattle.sends.specs.Works.{is-ready};
 use crate::verdict::both;
 use memory::Numbers;
 use protocol::Entry;
@@ -20,20 +19,10 @@ fn refused(x: Numbers, n: u8) -> Worked
     }
 }
 
-// Question 6: received and noted. The rule book also asks for a sender of at most 12.
-fn is_ready(e: Entry) -> bool
-    ensures { λ r. ⌜ r ≡ is-ready e ⌝ }
-{
-    if 12 < e.sender {
-        return false;
-    }
-    both(e.received, e.noted)
-}
-
 pub fn work_entry(x: Numbers, e: Entry) -> Worked
     ensures { λ r. ⌜ WorkedAs x e r ⌝ }
 {
-    if !is_ready(e) {
+    if !both(e.received, e.noted) {
         return refused(x, 6);
     }
     let height = (x.height % 65536) as u16;

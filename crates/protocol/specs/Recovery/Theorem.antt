@@ -202,8 +202,7 @@ module _ {s : State} {h : History} (k : Kept s h) where
   unfolding questions.entry-questions work-outcome accept
   keep-work r none e chare u y = true-not-false (y .0) refl
   keep-work r (some e) found chare u y =
-      let ready = and-r (questions.has-mark e) _ (y .0) in
-      let o = work-step-frame (k .carried) r chare (is-up-here _ u) e found (and-l _ _ ready) (and-r (e .received) _ ready) (y .1 .1 .0) in
+      let o = work-step-frame (k .carried) r chare (is-up-here _ u) e found (and-l _ _ (y .0)) (and-r (e .received) _ (y .0)) (y .1 .1 .0) in
       finish k o (same-ranged (work-job s r e) (work-status s r e) (k .ranged))
 
   keep-checkpoint : (p : ℕ) → Yes (questions.checkpoint-questions s p) → Reached k (accept (checkpoints.checkpoint s p) .state) (recorded s h (checkpoint p))

@@ -6,8 +6,8 @@ use borrow.Author.Needs.{needs}
 use Rattle.sends.proofs.entry.work_entry.Statement.{statement}
 use Rattle.sends.proofs.entry.work_entry.Tie as tie
 
-is-ready-requires : tie.Need-is-ready-requires
-is-ready-requires c κs = search needs
+both-requires : tie.Need-both-requires
+both-requires c κs = search needs
 
 refused-requires : tie.Need-refused-requires
 refused-requires c κs = search needs
@@ -17,7 +17,7 @@ returns c =
     let i = c .before in
     let r = i .before in
     let a = r .before .args in
-    rw (c .refused .ensures) (not-ready (a .x) (a .e) (sym (r .is-ready .ensures) ∙ not-true (r .is-ready .result) (i .if1 .taken)))
+    rw (c .refused .ensures) (not-ready (a .x) (a .e) (sym (r .both .ensures) ∙ not-true (r .both .result) (i .if1 .taken)))
 
 cast-height : tie.Need-cast-height
 cast-height c = search needs
@@ -32,7 +32,7 @@ returns-2 c =
     let r = i .before in
     let a = r .before .args in
     rw (c .refused2 .ensures)
-    (too-high (a .x) (a .e) (sym (r .is-ready .ensures) ∙ not-false (r .is-ready .result) (i .if1 .left)) (a .x .height % 65536) refl (h .if2 .taken))
+    (too-high (a .x) (a .e) (sym (r .both .ensures) ∙ not-false (r .both .result) (i .if1 .left)) (a .x .height % 65536) refl (h .if2 .taken))
 
 cast-mark : tie.Need-cast-mark
 cast-mark c = search needs
@@ -52,7 +52,7 @@ returns-3 c =
     let r = i .before in
     let a = r .before .args in
     rw (c .refused3 .ensures)
-    (mark-too-high (a .x) (a .e) (sym (r .is-ready .ensures) ∙ not-false (r .is-ready .result) (i .if1 .left)) (a .x .height % 65536) refl (h .if2 .left)
+    (mark-too-high (a .x) (a .e) (sym (r .both .ensures) ∙ not-false (r .both .result) (i .if1 .left)) (a .x .height % 65536) refl (h .if2 .left)
     (a .x .mark % 65536) refl (d .take-in .result) (d .take-in .ensures) (k .if3 .taken))
 
 cast-state : tie.Need-cast-state
@@ -82,14 +82,14 @@ returns-4 c =
     let i = h .before .before in
     let r = i .before in
     let a = r .before .args in
-    worked (a .x) (a .e) (sym (r .is-ready .ensures) ∙ not-false (r .is-ready .result) (i .if1 .left)) (a .x .height % 65536) refl (h .if2 .left)
+    worked (a .x) (a .e) (sym (r .both .ensures) ∙ not-false (r .both .result) (i .if1 .left)) (a .x .height % 65536) refl (h .if2 .left)
     (a .x .mark % 65536) refl (d .take-in .result) (d .take-in .ensures) (a .x .state % 4294967296) (w .work .result) refl (w .work .ensures) (search needs) (k .if3 .left)
 
 pub work-entry-spec : {M : Type 1} → statement M
 work-entry-spec =
     tie.close
     (tie.spec
-    is-ready-requires
+    both-requires
     refused-requires
     returns
     cast-height
