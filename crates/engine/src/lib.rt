@@ -55,11 +55,11 @@ pub fn step_on(s: &mut [u64], line: &[u8]) -> Answer
     ensures { λ r. ⌜ Framed (now (s .entry)) (now (s .exit)) r (step (view (now (s .entry))) (now (line .entry))) ⌝ }
 {
     let f = frames::read(line);
-    let a = act(s, f, line);
-    if is_accepted(a) {
+    let answer = act(s, f, line);
+    if is_accepted(answer) {
         settle::settle(s);
     }
-    a
+    answer
 }
 
 pub fn step(s: &mut [u64; STORE], line: &[u8]) -> Answer
