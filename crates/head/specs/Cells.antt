@@ -3,7 +3,7 @@ use mathlib.Core.Bool.{Bool, true, false, cond}
 use mathlib.Core.List.{List}
 use mathlib.Core.Logic.{⊎-elim}
 use mathlib.Core.Path.{_≡_, refl, sym, ap, _∙_}
-use Prim.Native.Nat.{ℕ, zero, suc, _+_, _<_, _≤_, min}
+use Prim.Native.Nat.{ℕ, _+_, _<_, _≤_, min}
 use native.Mathlib.Omega.{arith}
 use borrow.Author.Tests.{ne-eqb}
 use lib.Dec.{eqb}
@@ -62,11 +62,6 @@ fill-more f l i v h r e j k =
   where
     below : (j ≡ i → ⊥) → j < i
     below n = omega arith
-
-pub fill-start : (f : ℕ → ℕ) (l : List ℕ) → getD l 0 0 ≡ f 0 → Filled f l 1
-unfolding Filled
-fill-start f l e zero h = e
-fill-start f l e (suc j) h = absurd (omega arith)
 
 pub fill-end : (f : ℕ → ℕ) (l : List ℕ) (i n : ℕ) → Filled f l i → n ≤ i → Filled f l n
 unfolding Filled

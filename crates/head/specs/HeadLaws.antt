@@ -69,19 +69,11 @@ module _ (h : List ℕ) where
   unfolding job-of cell
   home-desk = refl
 
-  pub buddy-none : job-of h .buddy 0 ≡ 0
-  unfolding job-of cell
-  buddy-none = refl
-
   -- nor is any chare past the last, and no machine past the last has a buddy
   module _ (long : HEAD ≤ length h) where
     pub home-beyond : (c : ℕ) → 13 ≤ c → job-of h .home c ≡ 0
     unfolding job-of
     home-beyond c g = sym (cell-end 6 (part HOME 13 h) c (rw (part-length HOME 13 h (omega arith)) g))
-
-    pub buddy-beyond : (p : ℕ) → 7 ≤ p → job-of h .buddy p ≡ 0
-    unfolding job-of
-    buddy-beyond p g = sym (cell-end 6 (part BUDDY 7 h) p (rw (part-length BUDDY 7 h (omega arith)) g))
 
 -- ---- a word of a part
 module _ (h : List ℕ) (a n k : ℕ) where

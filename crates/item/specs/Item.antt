@@ -1,6 +1,6 @@
 -- A word as an item, and an item as a word. A field is what stands above its place value, modulo the number of its values.
-use mathlib.Core.Path.{_≡_, refl, sym, ap, _∙_}
-use mathlib.Core.Bool.{Bool, true, false, _&&_}
+use mathlib.Core.Path.{_≡_, sym, _∙_}
+use mathlib.Core.Bool.{_&&_}
 use Prim.Native.Nat.{ℕ, _+_, _*_, _/_, _%_, _<_}
 use native.Mathlib.Omega.{arith}
 use borrow.Author.Tests.{eqb-true, eq-eqb}
@@ -74,17 +74,9 @@ module _ (w : ℕ) where
   unfolding item-of
   owner-small = omega arith
 
-  pub kind-small : item-of w .kind < 8
-  unfolding item-of
-  kind-small = omega arith
-
   pub hops-small : item-of w .hops < 8
   unfolding item-of
   hops-small = omega arith
-
-  pub flags-small : item-of w .flags < 4
-  unfolding item-of
-  flags-small = omega arith
 
 -- SN and peer are the lowest part of a word
 pub by-name : (p n : ℕ) → n < 65536 → (w : ℕ) → (eqb (item-of w .peer) p && eqb (item-of w .sn) n) ≡ named p n w

@@ -1,5 +1,5 @@
 -- What a log holds fits a word: chares below 16, hops below 8, other numbers below 65536; and it has as many messages as there is room.
-use mathlib.Core.Path.{_≡_, refl, subst}
+use mathlib.Core.Path.{_≡_, refl}
 use mathlib.Core.Bool.{Bool}
 use mathlib.Core.List.{List}
 use mathlib.Core.Option.{Option, some, none}
@@ -9,14 +9,15 @@ use native.Mathlib.Nat.{mod-eq-of-lt}
 use lib.Dec.{eqb}
 use lib.ListN.{length, getD}
 use Rattle.lists.specs.Tests.{either}
-use Rattle.lists.specs.Lists.{All, find, find-some, keep, keep-ext, mem-map}
+use Rattle.lists.specs.Lists.{find}
 use Rattle.protocol.specs.declared.Message.{Message}
 use Rattle.protocol.specs.declared.Logged.{Logged}
 use Rattle.protocol.specs.declared.Lookup.the-variants.{Unticketed}
 use Rattle.protocol.specs.Packets.{for-receiver, looked-up, lookup}
 use Rattle.words.specs.Rows.{row, row-length}
+use Rattle.words.specs.Mapped.{find-holds}
 use Rattle.item.specs.Item.{item-of}
-use Rattle.logs.specs.Log.{logged-of, as-logged, fitted, entries, is-kept}
+use Rattle.logs.specs.Log.{logged-of, as-logged, fitted, entries}
 use Rattle.logs.specs.Words.{entries-length, entry-at}
 
 pub entries-fit : (ws : List ℕ) → length (entries ws) ≤ length ws - 1
@@ -44,24 +45,12 @@ unfolding fitted
 fitted-same x h = rw (mod-eq-of-lt (h .sender), mod-eq-of-lt (h .receiver), mod-eq-of-lt (h .hops))
 
 module _ (ws : List ℕ) where
-  -- what holds of every word holds of every message
-  pub every-message : (P : Logged → Type 0) → ((w : ℕ) → P (logged-of w)) → All P (entries ws)
-  unfolding entries
-  every-message P h x i = let m = mem-map logged-of (row ws) i in subst P (m .2) (h (m .0))
-
   pub at-fits : (i : ℕ) → Fits (getD (entries ws) i (logged-of 0) .message)
   at-fits i = rw (entry-at ws i) (word-fits (getD (row ws) i 0))
 
-  pub at-tn-fits : (i : ℕ) → getD (entries ws) i (logged-of 0) .tn < 65536
-  at-tn-fits i = rw (entry-at ws i) (tn-fits (getD (row ws) i 0))
-
   pub found-fits : (q : Logged → Bool) {x : Logged} → find q (entries ws) ≡ some x → Fits (x .message)
-  found-fits q {x} e = every-message (λ y. Fits (y .message)) word-fits x (find-some q (entries ws) e .0)
-
-  -- only the limits of chares below 16 count
-  pub kept-same : (f g : ℕ → ℕ) → ((r : ℕ) → r < 16 → f r ≡ g r) → keep (is-kept f) (entries ws) ≡ keep (is-kept g) (entries ws)
-  unfolding is-kept
-  kept-same f g h = keep-ext (is-kept f) (is-kept g) (entries ws) (every-message _ (λ w. rw (h (logged-of w .message .receiver) (word-fits w .receiver))))
+  unfolding entries
+  found-fits q e = find-holds logged-of (λ y. Fits (y .message)) word-fits q (row ws) e
 
 -- what a lookup without a TN gives is the message found
 is-found : (o : Option Logged) (m : Message) → Unticketed m ≡ looked-up o → (x : Logged) × (o ≡ some x) × (m ≡ x .message)

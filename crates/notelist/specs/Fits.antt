@@ -1,19 +1,15 @@
 -- What a note list holds fits a word: chares below 16, SN and TN below 65536; and it has as many notes as there is room.
-use mathlib.Core.Path.{_≡_, subst}
+use mathlib.Core.Path.{_≡_}
 use mathlib.Core.List.{List}
-use Prim.Native.Nat.{ℕ, _-_, _<_, _≤_}
+use Prim.Native.Nat.{ℕ, _-_, _<_}
 use native.Mathlib.Omega.{arith}
 use native.Mathlib.Nat.{mod-eq-of-lt}
-use lib.ListN.{length, getD}
-use Rattle.lists.specs.Lists.{All, mem-map}
+use lib.ListN.{getD}
 use Rattle.protocol.specs.declared.Note.{Note}
-use Rattle.words.specs.Rows.{row, row-length}
+use Rattle.words.specs.Rows.{row}
 use Rattle.item.specs.Item.{item-of}
 use Rattle.notelist.specs.Notes.{note-of, as-note, fitted, notes}
-use Rattle.notelist.specs.Words.{notes-length, note-at}
-
-pub notes-fit : (ws : List ℕ) → length (notes ws) ≤ length ws - 1
-notes-fit ws = omega (arith, notes-length ws, row-length ws)
+use Rattle.notelist.specs.Words.{note-at}
 
 pub record Fits (x : Note) : Type 0 where
   pub sender : x .sender < 16
@@ -31,10 +27,5 @@ unfolding fitted
 fitted-same x s r = rw (mod-eq-of-lt s, mod-eq-of-lt r)
 
 module _ (ws : List ℕ) where
-  -- what holds of every word holds of every note
-  pub every-note : (P : Note → Type 0) → ((w : ℕ) → P (note-of w)) → All P (notes ws)
-  unfolding notes
-  every-note P h x i = let m = mem-map note-of (row ws) i in subst P (m .2) (h (m .0))
-
   pub at-fits : (i : ℕ) → Fits (getD (notes ws) i (note-of 0))
   at-fits i = rw (note-at ws i) (word-fits (getD (row ws) i 0))

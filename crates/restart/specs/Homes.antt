@@ -1,14 +1,14 @@
 -- The chares of p take what they get back; the others stay. Their tables stand in rows, one a chare.
 use mathlib.Core.Path.{_≡_, refl, sym, ap, _∙_, fun-ext}
 use mathlib.Core.Bool.{Bool, true, false, not, _||_}
-use mathlib.Core.List.{List, [], _∷_}
+use mathlib.Core.List.{List, _∷_}
 use mathlib.Core.Logic.{⊎-elim}
 use Prim.Native.Nat.{ℕ, _+_, _-_, _*_, _<_, _≤_}
 use native.Mathlib.Omega.{arith}
 use lib.Dec.{leb}
 use lib.ListN.{length}
 use Rattle.lists.specs.Tests.{either, true-not-false, eq?}
-use Rattle.lists.specs.Lists.{allb, keep}
+use Rattle.lists.specs.Lists.{allb}
 use Rattle.lists.specs.Map.{upd}
 use Rattle.protocol.specs.declared.Entry.{Entry}
 use Rattle.protocol.specs.Parts.{Job, State, Memory, on, at-home, every-chare, with-live, with-status}

@@ -4,7 +4,6 @@ use mathlib.Core.Logic.{_≢_}
 use mathlib.Core.List.{List}
 use Prim.Native.Nat.{ℕ, _+_, _-_, _<_}
 use native.Mathlib.Omega.{arith}
-use lib.ListN.{length}
 use Rattle.lists.specs.Questions.{asks, yes-asks, first-no, first-no-yes, asks-first}
 use Rattle.protocol.specs.declared.Answer.the-variants.{Shown, Refused}
 use Rattle.protocol.specs.Parts.{State, up}

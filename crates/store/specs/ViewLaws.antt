@@ -3,14 +3,14 @@ use mathlib.Core.Path.{_≡_, refl, sym, ap, _∙_, fun-ext}
 use mathlib.Core.Bool.{Bool}
 use mathlib.Core.List.{List}
 use mathlib.Core.Logic.{inl}
-use Prim.Native.Nat.{ℕ, _+_, _*_, _≤_, _<_}
+use Prim.Native.Nat.{ℕ, _+_, _≤_, _<_}
 use native.Mathlib.Omega.{arith}
 use lib.Dec.{eqb}
 use lib.ListN.{length, set}
 use Rattle.lists.specs.Map.{upd, upd-ind, upd-same, upd-other}
 use Rattle.protocol.specs.declared.Status.{Status}
 use Rattle.protocol.specs.Parts.{Job, State, Memory, with-lost, with-status, with-memory, with-copies, with-notes, with-wire}
-use Rattle.words.specs.Part.{part, put, put-length, part-length, part-put, part-before, part-behind}
+use Rattle.words.specs.Part.{part, put, put-length, part-length, part-put, part-behind}
 use Rattle.words.specs.Slots.{slots, slot-here, slots-before, slots-behind, slots-put, slots-set}
 use Rattle.words.specs.Copy.{Apart}
 use Rattle.head.specs.Head.{HEAD, LOST, STATUS, HELD, TARGET, job-of, lost-of, status-of, held-of, target-of, as-status}
@@ -192,9 +192,6 @@ module _ (xs : List ℕ) (size : length xs ≡ STORE) where
 
   -- ---- the wire
   module _ (ys : List ℕ) (long : length ys ≡ PACKETS) where
-    pub wire-length : length (put WIRE PACKETS xs ys) ≡ STORE
-    wire-length = put-length WIRE PACKETS xs ys (omega arith) long ∙ size
-
     pub wire-put : view (put WIRE PACKETS xs ys) ≡ with-wire (view xs) (packets ys)
     unfolding view
     wire-put =

@@ -12,7 +12,7 @@ use Rattle.protocol.specs.Lines.{newline, lines}
 use Rattle.protocol.specs.Step.{Outcome, step, run}
 use Rattle.protocol.specs.Demand3.{Quiet, Agrees, Begins, state-after, history-after}
 use Rattle.protocol.specs.Recovery.Theorem.{demand3}
-use Rattle.transcript.specs.Reading.{Reading, answer-room, within, beginning, read-byte, read-all, is-empty, finishes, end-state}
+use Rattle.transcript.specs.Reading.{Reading, answer-room, within, beginning, read-all, is-empty, finishes, end-state}
 use Rattle.transcript.specs.Pieces.{read-cons, continued, lines-continued, kept-step, kept-empty, ends-state, goes-on}
 
 -- one crash-free run has the state's chares, sequences and unworked messages, and every earlier quiet moment's sequences begin them
