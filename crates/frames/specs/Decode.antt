@@ -22,10 +22,14 @@ digit-value x = or-zero (digit x)
 unfoldable pub is-digit : ℕ → Bool
 is-digit x = is-some (digit x)
 
+-- f says what a character counts
+unfoldable pub pairs : (ℕ → ℕ) → Line → List ℕ
+pairs f [] = []
+pairs f (x ∷ []) = []
+pairs f (x ∷ y ∷ l) = (f x * 16 + f y) ∷ pairs f l
+
 unfoldable pub decoded : Line → List ℕ
-decoded [] = []
-decoded (x ∷ []) = []
-decoded (x ∷ y ∷ l) = (digit-value x * 16 + digit-value y) ∷ decoded l
+decoded l = pairs digit-value l
 
 -- "Hexadecimal digits only, in pairs"
 unfoldable pub is-hexadecimal : Line → Bool

@@ -9,23 +9,28 @@ use lib.Dec.{eqb}
 use lib.ListN.{length, getD, List·getD-eq-default}
 use Rattle.lists.specs.Lists.{allb}
 use Rattle.protocol.specs.Frames.{Line, digit, pair, bytes}
-use Rattle.frames.specs.Decode.{or-zero, is-some, digit-value, is-digit, decoded, is-hexadecimal}
+use Rattle.frames.specs.Decode.{or-zero, is-some, digit-value, is-digit, pairs, decoded, is-hexadecimal}
+
+module _ (f : ℕ → ℕ) where
+  pub length-pairs : (l : Line) → length (pairs f l) ≡ length l / 2
+  unfolding pairs
+  length-pairs [] = refl
+  length-pairs (x ∷ []) = refl
+  length-pairs (x ∷ y ∷ l) = let h = length-pairs l in omega arith
+
+  pub getD-pairs : (l : Line) (i : ℕ) → i < length l / 2 → getD (pairs f l) i 0 ≡ f (getD l (2 * i) 0) * 16 + f (getD l (2 * i + 1) 0)
+  unfolding pairs
+  getD-pairs [] i h = absurd (omega arith)
+  getD-pairs (x ∷ []) i h = absurd (omega arith)
+  getD-pairs (x ∷ y ∷ l) zero h = refl
+  getD-pairs (x ∷ y ∷ l) (suc i) h =
+      let e : 2 * suc i ≡ suc (suc (2 * i)) = omega arith in
+      let g : suc (suc (2 * i)) + 1 ≡ suc (suc (2 * i + 1)) = omega arith in
+      getD-pairs l i (omega arith) ∙ rw (e, g)
 
 pub length-decoded : (l : Line) → length (decoded l) ≡ length l / 2
 unfolding decoded
-length-decoded [] = refl
-length-decoded (x ∷ []) = refl
-length-decoded (x ∷ y ∷ l) = let h = length-decoded l in omega arith
-
-pub getD-decoded : (l : Line) (i : ℕ) → i < length l / 2 → getD (decoded l) i 0 ≡ digit-value (getD l (2 * i) 0) * 16 + digit-value (getD l (2 * i + 1) 0)
-unfolding decoded
-getD-decoded [] i h = absurd (omega arith)
-getD-decoded (x ∷ []) i h = absurd (omega arith)
-getD-decoded (x ∷ y ∷ l) zero h = refl
-getD-decoded (x ∷ y ∷ l) (suc i) h =
-    let e : 2 * suc i ≡ suc (suc (2 * i)) = omega arith in
-    let f : suc (suc (2 * i)) + 1 ≡ suc (suc (2 * i + 1)) = omega arith in
-    getD-decoded l i (omega arith) ∙ rw (e, f)
+length-decoded l = length-pairs digit-value l
 
 pub decoded-end : (l : Line) (i : ℕ) → length l / 2 ≤ i → getD (decoded l) i 0 ≡ 0
 decoded-end l i h = List·getD-eq-default (decoded l) 0 {n = i} (omega (arith, length-decoded l))
@@ -43,7 +48,7 @@ bytes-pair (some a) (some b) true false d = refl
 bytes-pair (some a) (some b) false h d = refl
 
 pub bytes-decoded : (l : Line) → bytes l ≡ cond (is-hexadecimal l) (some (decoded l)) none
-unfolding bytes is-hexadecimal allb decoded digit-value is-digit
+unfolding bytes is-hexadecimal allb decoded pairs digit-value is-digit
 bytes-decoded [] = refl
 bytes-decoded (x ∷ []) = refl
 bytes-decoded (x ∷ y ∷ l) =

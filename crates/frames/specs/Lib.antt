@@ -2,6 +2,11 @@
 pub mod Decode
 pub mod DigitLaws
 pub mod DecodeLaws
+pub mod Codes
+pub mod CodeLaws
 pub mod Read
+pub mod KindLaws
+pub mod FieldLaws
+pub mod TableLaws
 pub mod ReadLaws
 pub mod Range

@@ -1,6 +1,7 @@
 -- From the digits of a line to its frame.
-use mathlib.Core.Bool.{Bool, true, false, not, _&&_}
-use mathlib.Core.List.{List}
+use mathlib.Core.Bool.{Bool, true, false, cond, not, _&&_}
+use mathlib.Core.List.{List, [], _∷_}
+use mathlib.Core.Logic.{⊎-elim}
 use mathlib.Core.Option.{none}
 use mathlib.Core.Path.{_≡_, refl, sym, _∙_}
 use Prim.Native.Nat.{ℕ, _+_, _*_, _<_, _≤_, _/_, _%_}
@@ -11,21 +12,17 @@ use lib.Dec.{eqb, leb}
 use lib.ListN.{length, getD, drop, List·getD-eq-default, drop-of-length-le}
 use lib.Seq.{drop-cons}
 use Rattle.lists.specs.Lists.{allb}
-use Rattle.lists.specs.Tests.{either}
-use Rattle.protocol.specs.Frames.{Line, least, least-length, exact-length, is-whole, parts, frame, frame-of}
+use Rattle.lists.specs.Tests.{either, lt?, eq?}
+use Rattle.protocol.specs.Frames.{Line, bytes, least, least-length, exact-length, is-whole, parts, frame, frame-of}
 use Rattle.frames.specs.Decode.{decoded, is-hexadecimal, is-digit}
 use Rattle.frames.specs.DecodeLaws.{length-decoded, bytes-decoded}
-use Rattle.frames.specs.Read.{read-as, meaning}
+use Rattle.frames.specs.Codes.{no-digit, codes}
+use Rattle.frames.specs.CodeLaws.{decoded-codes}
+use Rattle.frames.specs.KindLaws.{hexadecimal-odd, kind-digits, kind-small, kind-no-digit}
+use Rattle.frames.specs.Read.{read-as, meaning, job-as, behind-kind}
+use Rattle.frames.specs.declared.Frame.the-variants.{Garbled, Job}
 
 -- ---- a loop over the characters: those before i are digits
-pub hexadecimal-odd : (l : Line) → (length l % 2 ≡ 0 → ⊥) → is-hexadecimal l ≡ false
-unfolding is-hexadecimal
-hexadecimal-odd l h = rw (ne-eqb _ 0 h)
-
-pub hexadecimal-even : (l : Line) → length l % 2 ≡ 0 → is-hexadecimal l ≡ allb is-digit l
-unfolding is-hexadecimal
-hexadecimal-even l h = rw (eq-eqb _ 0 h)
-
 module _ (p : ℕ → Bool) (l : List ℕ) (i : ℕ) (a : Bool) (inv : a ≡ allb p (drop i l)) where
   pub all-hit : i < length l → p (getD l i 0) ≡ true → a ≡ allb p (drop (i + 1) l)
   unfolding allb
@@ -39,44 +36,103 @@ module _ (p : ℕ → Bool) (l : List ℕ) (i : ℕ) (a : Bool) (inv : a ≡ all
   unfolding allb
   all-end h = sym (inv ∙ rw (drop-of-length-le l {i = i} h))
 
--- ---- the exact length: k is the kind and m its entry in the table of least lengths
-module _ (l : Line) (k m : ℕ) (is-kind : k ≡ getD (decoded l) 0 0) (is-least : m ≡ least-length k) where
-  lengths : is-whole (decoded l) ≡ (not (eqb m 0) && leb m (length l / 2) && eqb (length l / 2) (exact-length (decoded l)))
-  unfolding is-whole
-  lengths = rw (is-least, is-kind, length-decoded l)
+-- ---- a job's length: m is its least, a and b its first two bytes
+module _ (l : Line) (m a b : ℕ) (hex : is-hexadecimal l ≡ true) (is-a : a ≡ getD (decoded l) 1 0) (is-b : b ≡ getD (decoded l) 2 0) where
+  pub job-exact : length l / 2 ≡ m + a + 3 * b → Job ≡ job-as l m
+  unfolding job-as
+  job-exact e = rw (hex, ← is-a, ← is-b, eq-eqb (length l / 2) (m + a + 3 * b) e)
 
-  pub whole-none : m ≡ 0 → false ≡ is-whole (decoded l)
-  whole-none h = sym (lengths ∙ rw h)
+  pub job-other : (length l / 2 ≡ m + a + 3 * b → ⊥) → Garbled ≡ job-as l m
+  unfolding job-as
+  job-other n = rw (hex, ← is-a, ← is-b, ne-eqb (length l / 2) (m + a + 3 * b) n)
 
-  pub whole-short : length l / 2 < m → false ≡ is-whole (decoded l)
-  whole-short h = let n : m ≡ 0 → ⊥ = λ e. omega arith in sym (lengths ∙ rw (ne-eqb m 0 n, lt-leb m (length l / 2) h))
+-- ---- the frame of any line
+and-false : (a : Bool) → (a && false) ≡ false
+and-false true = refl
+and-false false = refl
 
-  module _ (n : m ≡ 0 → ⊥) (h : m ≤ length l / 2) where
-    pub whole-job : (a b : ℕ) → k ≡ 1 → a ≡ getD (decoded l) 1 0 → b ≡ getD (decoded l) 2 0 → eqb (length l / 2) (3 + a + 3 * b) ≡ is-whole (decoded l)
-    unfolding exact-length
-    whole-job a b e p q = sym (lengths ∙ rw (ne-eqb m 0 n, le-leb m (length l / 2) h, ← is-kind, e, p, q))
+and-true : (a : Bool) → (a && true) ≡ a
+and-true true = refl
+and-true false = refl
 
-    pub whole-other : (k ≡ 1 → ⊥) → eqb (length l / 2) m ≡ is-whole (decoded l)
-    unfolding exact-length
-    whole-other e = sym (lengths ∙ rw (ne-eqb m 0 n, le-leb m (length l / 2) h, ← is-kind, ne-eqb k 1 e, is-least))
+-- a length that is x is at least what x is
+exact-least : (m x n : ℕ) → m ≤ x → (leb m n && eqb n x) ≡ eqb n x
+exact-least m x n h =
+    ⊎-elim
+    (λ (e : n ≡ x). rw (le-leb m n (omega arith)))
+    (λ e. rw (ne-eqb n x e, and-false (leb m n)))
+    (eq? n x)
 
--- a kind past the table
-pub whole-unknown : (l : Line) (k : ℕ) → k ≡ getD (decoded l) 0 0 → 22 < k → false ≡ is-whole (decoded l)
-unfolding least-length least
-whole-unknown l k e h = whole-none l k 0 e (sym (List·getD-eq-default least 0 {n = k} h)) refl
-
--- ---- the three ways of a line
-pub frame-garbled : (l : Line) → is-hexadecimal l ≡ false → frame l ≡ none
+frame-cond : (l : Line) → frame l ≡ cond (is-hexadecimal l && is-whole (decoded l)) (parts (decoded l) (getD (decoded l) 0 0)) none
 unfolding frame frame-of
-frame-garbled l h = rw (bytes-decoded l, h)
+frame-cond l = either (is-hexadecimal l) (λ e. rw (bytes-decoded l, e)) (λ e. rw (bytes-decoded l, e))
 
-pub frame-not-whole : (l : Line) → is-hexadecimal l ≡ true → is-whole (decoded l) ≡ false → frame l ≡ none
-unfolding frame frame-of
-frame-not-whole l h w = rw (bytes-decoded l, h) (rw w)
+frame-garbled : (l : Line) → is-hexadecimal l ≡ false → frame l ≡ none
+frame-garbled l h = rw (frame-cond l, h)
 
-pub frame-whole : (l : Line) → is-hexadecimal l ≡ true → is-whole (decoded l) ≡ true → frame l ≡ parts (decoded l) (getD (decoded l) 0 0)
-unfolding frame frame-of
-frame-whole l h w = rw (bytes-decoded l, h) (rw w)
+frame-not-whole : (l : Line) → is-whole (decoded l) ≡ false → frame l ≡ none
+frame-not-whole l w = rw (frame-cond l, w, and-false (is-hexadecimal l))
+
+pub frame-short : (l : Line) → length l < 2 → Garbled ≡ read-as (frame l)
+unfolding frame frame-of bytes is-whole least-length least read-as
+frame-short [] h = refl
+frame-short (x ∷ []) h = refl
+frame-short (x ∷ y ∷ l) h = absurd (omega arith)
+
+-- ---- a line with a kind: k is its code, and m its entry in the table of least lengths
+module _ (l : Line) (k : ℕ) (h : 2 ≤ length l) (is-kind : k ≡ getD (codes l) 0 0) where
+  kind-byte : k ≤ 255 → getD (decoded l) 0 0 ≡ k
+  kind-byte s = omega (arith, decoded-codes l 0)
+
+  whole-unknown : k ≤ 255 → 22 < k → is-whole (decoded l) ≡ false
+  unfolding is-whole least-length least
+  whole-unknown s u = rw (kind-byte s, List·getD-eq-default least 0 {n = k} u)
+
+  pub frame-unknown : 22 < k → Garbled ≡ read-as (frame l)
+  unfolding read-as
+  frame-unknown u =
+      ⊎-elim
+      (λ c. rw (frame-not-whole l (whole-unknown (omega (arith, kind-small l h (omega arith))) u)))
+      (λ c. rw (frame-garbled l (kind-no-digit l h (omega arith))))
+      (lt? k no-digit)
+
+  module _ (known : k ≤ 22) (m : ℕ) (is-least : m ≡ least-length k) where
+    lengths : is-whole (decoded l) ≡ (not (eqb m 0) && leb m (length l / 2) && eqb (length l / 2) (exact-length (decoded l)))
+    unfolding is-whole
+    lengths = rw (kind-byte (omega arith), ← is-least, length-decoded l)
+
+    whole-job : k ≡ 1 → is-whole (decoded l) ≡ eqb (length l / 2) (m + getD (decoded l) 1 0 + 3 * getD (decoded l) 2 0)
+    unfolding exact-length least-length least
+    whole-job e =
+        let three : m ≡ 3 = is-least ∙ rw e in
+        lengths ∙ rw (kind-byte (omega arith), e, three) (exact-least 3 (3 + getD (decoded l) 1 0 + 3 * getD (decoded l) 2 0) (length l / 2) (omega arith))
+
+    pub frame-job : k ≡ 1 → job-as l m ≡ read-as (frame l)
+    unfolding job-as read-as parts
+    frame-job e =
+        rw (frame-cond l, whole-job e, kind-byte (omega arith), e)
+        (either (is-hexadecimal l && eqb (length l / 2) (m + getD (decoded l) 1 0 + 3 * getD (decoded l) 2 0)) (λ t. rw t) (λ t. rw t))
+
+    module _ (other : k ≡ 1 → ⊥) where
+      whole-other : is-whole (decoded l) ≡ (not (eqb m 0) && leb m (length l / 2) && eqb (length l / 2) m)
+      unfolding exact-length
+      whole-other = lengths ∙ rw (kind-byte (omega arith), ne-eqb k 1 other, is-least)
+
+      pub frame-length : (length l ≡ 2 * m → ⊥) → Garbled ≡ read-as (frame l)
+      unfolding read-as
+      frame-length n =
+          ⊎-elim
+          (λ (e : length l % 2 ≡ 0). rw (frame-not-whole l (whole-other ∙ rw (ne-eqb (length l / 2) m (λ f. n (omega arith)), and-false (not (eqb m 0) && leb m (length l / 2))))))
+          (λ e. rw (frame-garbled l (hexadecimal-odd l e)))
+          (eq? (length l % 2) 0)
+
+      pub frame-behind : (n : ℕ) → k ≡ n → length l ≡ 2 * m → read-as (behind-kind l n) ≡ read-as (frame l)
+      unfolding behind-kind
+      frame-behind n kn e =
+          let some : m ≡ 0 → ⊥ = λ z. omega arith in
+          let half : length l / 2 ≡ m = omega arith in
+          let whole : is-whole (decoded l) ≡ true = whole-other ∙ rw (ne-eqb m 0 some, half, le-leb m m (omega arith), eq-eqb m m refl) in
+          rw (← kn, frame-cond l, whole, kind-byte (omega arith), kind-digits l h (omega arith), and-true (is-hexadecimal (drop 2 l)))
 
 -- ---- nothing is lost: the frame of a line, from what the code has of it
 module _ (l : Line) where
@@ -92,11 +148,9 @@ module _ (l : Line) where
       (either (eqb k 0x15) (λ e. rw e) λ e. rw e
       (either (eqb k 0x16) (λ e. rw e) λ e. rw e)))))))
 
-  kept : (h w : Bool) → is-hexadecimal l ≡ h → is-whole (decoded l) ≡ w → frame l ≡ meaning l (read-as (frame l))
-  unfolding read-as meaning
-  kept false w e f = rw (frame-garbled l e)
-  kept true false e f = rw (frame-not-whole l e f)
-  kept true true e f = rw (frame-whole l e f) (kept-parts (getD (decoded l) 0 0))
-
   pub frame-meaning : frame l ≡ meaning l (read-as (frame l))
-  frame-meaning = kept (is-hexadecimal l) (is-whole (decoded l)) refl refl
+  unfolding read-as meaning
+  frame-meaning =
+      either (is-hexadecimal l && is-whole (decoded l))
+      (λ e. rw (frame-cond l, e) (kept-parts (getD (decoded l) 0 0)))
+      (λ e. rw (frame-cond l, e))

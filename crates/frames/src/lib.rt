@@ -1,10 +1,11 @@
 // From a line of hexadecimal digits to a frame. The digits are read where they stand: nothing is copied.
 ghost use mathlib.Core.Path.{_≡_};
-ghost use Prim.Native.Nat.{_+_, _*_};
-ghost use lib.ListN.{getD};
-ghost use Rattle.protocol.specs.Frames.{frame, is-whole, parts};
-ghost use Rattle.frames.specs.Decode.{digit-value, is-digit, decoded, is-hexadecimal};
-ghost use Rattle.frames.specs.Read.{read-as};
+ghost use Prim.Native.Nat.{_+_, _*_, _<_, _/_, _%_};
+ghost use lib.ListN.{length, getD};
+ghost use Rattle.protocol.specs.Frames.{frame};
+ghost use Rattle.frames.specs.Decode.{decoded, is-hexadecimal};
+ghost use Rattle.frames.specs.Codes.{digit-code, codes};
+ghost use Rattle.frames.specs.Read.{read-as, job-as, behind-kind};
 
 // The least length of each kind of frame, by kind; 0 is no kind.
 const LEAST: [u8; 23] = [
@@ -54,49 +55,62 @@ pub enum Frame {
     Show(u8),
 }
 
-fn digit_value(x: u8) -> u8
-    ensures { λ r. ⌜ r ≡ digit-value x ⌝ }
+// What stands for a character that is no digit: more than the bytes of a frame together, the job's apart.
+const NO_DIGIT: usize = 4096;
+
+fn wide(x: u8) -> usize
+    ensures { λ r. ⌜ r ≡ x ⌝ }
 {
-    if x < 48 {
-        return 0;
-    }
-    if x < 58 {
-        return x - 48;
-    }
-    if x < 65 {
-        return 0;
-    }
-    if x < 71 {
-        return x - 55;
-    }
-    if x < 97 {
-        return 0;
-    }
-    if x < 103 {
-        return x - 87;
-    }
-    0
+    x as usize
 }
 
-fn is_digit(x: u8) -> bool
-    ensures { λ r. ⌜ r ≡ is-digit x ⌝ }
+fn narrow(x: usize) -> u8
+    ensures { λ r. ⌜ r ≡ x % 256 ⌝ }
 {
-    if x < 48 {
-        return false;
+    (x % 256) as u8
+}
+
+fn two_bytes(high: u8, low: u8) -> u16
+    ensures { λ r. ⌜ r ≡ high * 256 + low ⌝ }
+{
+    (high as u16) * 256 + (low as u16)
+}
+
+// The value of a digit of either case; NO_DIGIT for any other character.
+fn digit(x: u8) -> usize
+    ensures { λ r. ⌜ r ≡ digit-code x ⌝ }
+{
+    if 47 < x && x < 58 {
+        return wide(x - 48);
     }
-    if x < 58 {
-        return true;
+    if 64 < x && x < 71 {
+        return wide(x - 55);
     }
-    if x < 65 {
-        return false;
+    if 96 < x && x < 103 {
+        return wide(x - 87);
     }
-    if x < 71 {
-        return true;
+    NO_DIGIT
+}
+
+// The byte at `i`, judged and decoded at once: NO_DIGIT or more where one of the two is no digit.
+fn pair(line: &[u8], i: usize) -> usize
+    requires { ⌜ i < length (now line) / 2 ⌝ }
+    ensures { λ r. ⌜ r ≡ getD (codes (now (line .entry))) i 0 ⌝ }
+{
+    let high = digit(line[2 * i]);
+    let low = digit(line[2 * i + 1]);
+    high * 16 + low
+}
+
+// The byte at `i`, 0 past the end.
+pub fn byte(line: &[u8], i: usize) -> u8
+    ensures { λ r. ⌜ r ≡ getD (decoded (now (line .entry))) i 0 ⌝ }
+{
+    if i < line.len() / 2 {
+        narrow(pair(line, i))
+    } else {
+        0
     }
-    if x < 97 {
-        return false;
-    }
-    x < 103
 }
 
 fn is_hexadecimal(line: &[u8]) -> bool
@@ -107,7 +121,7 @@ fn is_hexadecimal(line: &[u8]) -> bool
     }
     let mut i = 0;
     while i < line.len() {
-        if !is_digit(line[i]) {
+        if digit(line[i]) == NO_DIGIT {
             return false;
         }
         i += 1;
@@ -115,83 +129,76 @@ fn is_hexadecimal(line: &[u8]) -> bool
     true
 }
 
-// The byte at `i`, 0 past the end.
-pub fn byte(line: &[u8], i: usize) -> u8
-    ensures { λ r. ⌜ r ≡ getD (decoded (now (line .entry))) i 0 ⌝ }
+// Kind 01: its bytes stay in the line, and its length is told by two of them.
+fn job(line: &[u8], least: u8) -> Frame
+    ensures { λ r. ⌜ r ≡ job-as (now (line .entry)) least ⌝ }
 {
-    if i < line.len() / 2 {
-        let high = digit_value(line[2 * i]);
-        let low = digit_value(line[2 * i + 1]);
-        high * 16 + low
+    if !is_hexadecimal(line) {
+        return Frame::Garbled;
+    }
+    let machines = wide(byte(line, 1));
+    let chares = wide(byte(line, 2));
+    if line.len() / 2 == wide(least) + machines + 3 * chares {
+        Frame::Job
     } else {
-        0
+        Frame::Garbled
     }
 }
 
-fn wide(x: u8) -> usize
-    ensures { λ r. ⌜ r ≡ x ⌝ }
+fn inject(line: &[u8]) -> Frame
+    requires { ⌜ length (now line) ≡ 10 ⌝ }
+    ensures { λ r. ⌜ r ≡ read-as (behind-kind (now (line .entry)) 0x10) ⌝ }
 {
-    x as usize
+    let chare = pair(line, 1);
+    let high = pair(line, 2);
+    let low = pair(line, 3);
+    let hops = pair(line, 4);
+    if NO_DIGIT <= chare + high + low + hops {
+        return Frame::Garbled;
+    }
+    Frame::Inject {
+        chare: narrow(chare),
+        value: two_bytes(narrow(high), narrow(low)),
+        hops: narrow(hops),
+    }
 }
 
-fn two_bytes(high: u8, low: u8) -> u16
-    ensures { λ r. ⌜ r ≡ high * 256 + low ⌝ }
+fn deliver(line: &[u8]) -> Frame
+    requires { ⌜ length (now line) ≡ 12 ⌝ }
+    ensures { λ r. ⌜ r ≡ read-as (behind-kind (now (line .entry)) 0x11) ⌝ }
 {
-    (high as u16) * 256 + (low as u16)
+    let kind = pair(line, 1);
+    let sender = pair(line, 2);
+    let receiver = pair(line, 3);
+    let high = pair(line, 4);
+    let low = pair(line, 5);
+    if NO_DIGIT <= kind + sender + receiver + high + low {
+        return Frame::Garbled;
+    }
+    Frame::Deliver {
+        kind: narrow(kind),
+        sender: narrow(sender),
+        receiver: narrow(receiver),
+        sn: two_bytes(narrow(high), narrow(low)),
+    }
 }
 
-fn is_whole(line: &[u8]) -> bool
-    ensures { λ r. ⌜ r ≡ is-whole (decoded (now (line .entry))) ⌝ }
+// The kinds of one field.
+fn single(line: &[u8], kind: usize) -> Frame
+    requires { ⌜ length (now line) ≡ 4 ⌝ }
+    requires { ⌜ 0x11 < kind ⌝ }
+    ensures { λ r. ⌜ r ≡ read-as (behind-kind (now (line .entry)) kind) ⌝ }
 {
-    let kind = wide(byte(line, 0));
-    if 22 < kind {
-        return false;
+    let x = pair(line, 1);
+    if NO_DIGIT <= x {
+        return Frame::Garbled;
     }
-    let least = wide(LEAST[kind]);
-    let n = line.len() / 2;
-    if least == 0 {
-        return false;
-    }
-    if n < least {
-        return false;
-    }
-    if kind == 1 {
-        let machines = wide(byte(line, 1));
-        let chares = wide(byte(line, 2));
-        return n == 3 + machines + 3 * chares;
-    }
-    n == least
-}
-
-// The fields of a frame of a kind, by position.
-fn fields(line: &[u8], kind: u8) -> Frame
-    ensures { λ r. ⌜ r ≡ read-as (parts (decoded (now (line .entry))) kind) ⌝ }
-{
     match kind {
-        0x01 => Frame::Job,
-        0x10 => {
-            let chare = byte(line, 1);
-            let value = two_bytes(byte(line, 2), byte(line, 3));
-            let hops = byte(line, 4);
-            Frame::Inject { chare, value, hops }
-        }
-        0x11 => {
-            let packet = byte(line, 1);
-            let sender = byte(line, 2);
-            let receiver = byte(line, 3);
-            let sn = two_bytes(byte(line, 4), byte(line, 5));
-            Frame::Deliver {
-                kind: packet,
-                sender,
-                receiver,
-                sn,
-            }
-        }
-        0x12 => Frame::Work(byte(line, 1)),
-        0x13 => Frame::Checkpoint(byte(line, 1)),
-        0x14 => Frame::Crash(byte(line, 1)),
-        0x15 => Frame::Restart(byte(line, 1)),
-        0x16 => Frame::Show(byte(line, 1)),
+        0x12 => Frame::Work(narrow(x)),
+        0x13 => Frame::Checkpoint(narrow(x)),
+        0x14 => Frame::Crash(narrow(x)),
+        0x15 => Frame::Restart(narrow(x)),
+        0x16 => Frame::Show(narrow(x)),
         _ => Frame::Garbled,
     }
 }
@@ -199,11 +206,23 @@ fn fields(line: &[u8], kind: u8) -> Frame
 pub fn read(line: &[u8]) -> Frame
     ensures { λ r. ⌜ r ≡ read-as (frame (now (line .entry))) ⌝ }
 {
-    if !is_hexadecimal(line) {
+    if line.len() < 2 {
         return Frame::Garbled;
     }
-    if !is_whole(line) {
+    let kind = pair(line, 0);
+    if 22 < kind {
         return Frame::Garbled;
     }
-    fields(line, byte(line, 0))
+    let least = LEAST[kind];
+    if kind == 1 {
+        return job(line, least);
+    }
+    if line.len() != 2 * wide(least) {
+        return Frame::Garbled;
+    }
+    match kind {
+        0x10 => inject(line),
+        0x11 => deliver(line),
+        _ => single(line, kind),
+    }
 }

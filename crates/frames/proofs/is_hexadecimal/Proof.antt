@@ -3,11 +3,12 @@ use mathlib.Core.Path.{_≡_, sym, _∙_}
 use Prim.Native.Nat.{_≤_, _-_}
 use native.Mathlib.Omega.{arith}
 use borrow.Author.Needs.{needs}
-use borrow.Author.Tests.{not-true, not-false}
 use lib.ListN.{length, drop}
 use Rattle.lists.specs.Lists.{allb}
 use Rattle.frames.specs.Decode.{is-digit, is-hexadecimal}
-use Rattle.frames.specs.ReadLaws.{hexadecimal-odd, hexadecimal-even, all-hit, all-miss, all-end}
+use Rattle.frames.specs.CodeLaws.{digit-true, digit-false}
+use Rattle.frames.specs.KindLaws.{hexadecimal-odd, hexadecimal-even}
+use Rattle.frames.specs.ReadLaws.{all-hit, all-miss, all-end}
 use Rattle.frames.proofs.is_hexadecimal.Statement.{statement}
 use Rattle.frames.proofs.is_hexadecimal.Tie as tie
 
@@ -23,17 +24,17 @@ returns c = sym (hexadecimal-odd _ (c .if1 .taken))
 loop-holds : tie.Need-loop-holds Inv-loop μ-loop
 loop-holds c = (search needs, hexadecimal-even _ (c .if1 .left))
 
-shared-slice-read-is-digit : tie.Need-shared-slice-read-is-digit Inv-loop μ-loop
-shared-slice-read-is-digit c = search needs
+shared-slice-read-digit : tie.Need-shared-slice-read-digit Inv-loop μ-loop
+shared-slice-read-digit c = search needs
 
-is-digit-requires : tie.Need-is-digit-requires Inv-loop μ-loop
-is-digit-requires c κs = search needs
+digit-requires : tie.Need-digit-requires Inv-loop μ-loop
+digit-requires c κs = search needs
 
 returns-2 : tie.Need-returns-2 Inv-loop μ-loop
 returns-2 c =
     let s = c .before .before .before .before .before .before .before in
     let l = c .before .before .before .before .loop in
-    all-miss is-digit (s .args .line .now) (l .i) _ (l .inv .1) (omega arith) (sym (c .before .is-digit .ensures) ∙ not-true _ (c .if2 .taken))
+    all-miss is-digit (s .args .line .now) (l .i) _ (l .inv .1) (omega arith) (digit-false _ (sym (c .before .digit .ensures) ∙ c .if2 .taken))
 
 add-i : tie.Need-add-i Inv-loop μ-loop
 add-i c = search needs
@@ -45,7 +46,7 @@ loop-again : tie.Need-loop-again Inv-loop μ-loop
 loop-again c =
     let s = c .before .before .before .before .before .before .before in
     let l = c .before .before .before .before .loop in
-    (search needs, all-hit is-digit (s .args .line .now) (l .i) _ (l .inv .1) (omega arith) (sym (c .before .is-digit .ensures) ∙ not-false _ (c .if2 .left)))
+    (search needs, all-hit is-digit (s .args .line .now) (l .i) _ (l .inv .1) (omega arith) (digit-true _ (λ e. c .if2 .left (c .before .digit .ensures ∙ e))))
 
 returns-3 : tie.Need-returns-3 Inv-loop μ-loop
 returns-3 c =
@@ -61,8 +62,8 @@ is-hexadecimal-spec =
     μ-loop
     returns
     loop-holds
-    shared-slice-read-is-digit
-    is-digit-requires
+    shared-slice-read-digit
+    digit-requires
     returns-2
     add-i
     loop-less

@@ -1,47 +1,107 @@
--- `frames::read` meets its contract: a line that is not hexadecimal or not whole has no frame, any other the one of its fields.
-use mathlib.Core.Path.{sym, _∙_}
+-- `frames::read` meets its contract: the kind decides, then the length, then the digits behind the kind.
+use mathlib.Core.Path.{refl, _∙_}
+use native.Mathlib.Omega.{arith}
 use borrow.Author.Needs.{needs}
-use borrow.Author.Tests.{not-true, not-false}
-use Rattle.frames.specs.Read.{read-as}
-use Rattle.frames.specs.ReadLaws.{frame-garbled, frame-not-whole, frame-whole}
+use Rattle.protocol.specs.Frames.{least, least-length}
+use Rattle.frames.specs.ReadLaws.{frame-short, frame-unknown, frame-job, frame-length, frame-behind}
+use Rattle.frames.specs.TableLaws.{least-small, single-line}
 use Rattle.frames.proofs.read.Statement.{statement}
 use Rattle.frames.proofs.read.Tie as tie
 
-is-hexadecimal-requires : tie.Need-is-hexadecimal-requires
-is-hexadecimal-requires c κs = search needs
-
 returns : tie.Need-returns
-unfolding read-as
-returns c = rw (frame-garbled _ (sym (c .before .is-hexadecimal .ensures) ∙ not-true _ (c .if1 .taken)))
+returns c = frame-short _ (c .if1 .taken)
 
-is-whole-requires : tie.Need-is-whole-requires
-is-whole-requires c κs = search needs
+pair-requires : tie.Need-pair-requires
+pair-requires c κs = search needs
 
 returns-2 : tie.Need-returns-2
-unfolding read-as
-returns-2 c = rw (frame-not-whole _ (sym (c .before .before .before .is-hexadecimal .ensures) ∙ not-false _ (c .before .before .if1 .left)) (sym (c .before .is-whole .ensures) ∙ not-true _ (c .if2 .taken)))
+returns-2 c = frame-unknown _ _ (c .before .before .if1 .left) (c .before .pair .ensures) (c .if2 .taken)
 
-byte-requires : tie.Need-byte-requires
-byte-requires c κs = search needs
+array-read-least : tie.Need-array-read-least
+array-read-least c = search needs
 
-fields-requires : tie.Need-fields-requires
-fields-requires c κs = search needs
+job-requires : tie.Need-job-requires
+job-requires c κs = search needs
 
 returns-3 : tie.Need-returns-3
+unfolding least-length least
 returns-3 c =
-    let w = c .before .before .before in
-    let h = w .before .before in
-    c .fields .ensures
-    ∙ rw (frame-whole _ (sym (h .is-hexadecimal .ensures) ∙ not-false _ (w .before .if1 .left)) (sym (w .is-whole .ensures) ∙ not-false _ (c .before .before .if2 .left)), c .before .byte .ensures)
+    let k = c .before .before in
+    let p = k .before in
+    c .job .ensures ∙ frame-job _ _ (p .before .if1 .left) (p .pair .ensures) (k .if2 .left) _ refl (c .before .if3 .taken)
+
+wide-requires : tie.Need-wide-requires
+wide-requires c κs = search needs
+
+mul-if4 : tie.Need-mul-if4
+unfolding least-length least
+mul-if4 c = let h = least-small _ _ (c .before .before .if2 .left) (c .wide .ensures) in search needs
+
+returns-4 : tie.Need-returns-4
+unfolding least-length least
+returns-4 c =
+    let o = c .before .before in
+    let k = o .before in
+    let p = k .before in
+    frame-length _ _ (p .before .if1 .left) (p .pair .ensures) (k .if2 .left) _ (c .before .wide .ensures) (o .if3 .left) (c .if4 .taken)
+
+inject-requires : tie.Need-inject-requires
+inject-requires c κs = c .before .if4 .left ∙ rw (c .before .before .wide .ensures, c .match .keys1)
+
+deliver-requires : tie.Need-deliver-requires
+deliver-requires c κs = c .before .if4 .left ∙ rw (c .before .before .wide .ensures, c .match .keys2)
+
+single-requires : tie.Need-single-requires
+unfolding least-length least
+single-requires c κs =
+    let e = c .before in
+    let o = e .before .before in
+    let k = o .before in
+    single-line _ _ _ (k .before .before .if1 .left) (k .if2 .left) (e .before .wide .ensures) (e .if4 .left) (o .if3 .left) (c .match .rest .0 .1) (c .match .rest .1)
+
+returns-5 : tie.Need-returns-5
+unfolding least-length least
+returns-5 c =
+    let e = c .before .before in
+    let o = e .before .before in
+    let k = o .before in
+    let p = k .before in
+    c .inject .ensures ∙ frame-behind _ _ (p .before .if1 .left) (p .pair .ensures) (k .if2 .left) _ (e .before .wide .ensures) (o .if3 .left) _ (c .before .match .keys1) (e .if4 .left)
+
+returns-6 : tie.Need-returns-6
+unfolding least-length least
+returns-6 c =
+    let e = c .before .before in
+    let o = e .before .before in
+    let k = o .before in
+    let p = k .before in
+    c .deliver .ensures ∙ frame-behind _ _ (p .before .if1 .left) (p .pair .ensures) (k .if2 .left) _ (e .before .wide .ensures) (o .if3 .left) _ (c .before .match .keys2) (e .if4 .left)
+
+returns-7 : tie.Need-returns-7
+unfolding least-length least
+returns-7 c =
+    let e = c .before .before in
+    let o = e .before .before in
+    let k = o .before in
+    let p = k .before in
+    c .single .ensures ∙ frame-behind _ _ (p .before .if1 .left) (p .pair .ensures) (k .if2 .left) _ (e .before .wide .ensures) (o .if3 .left) _ refl (e .if4 .left)
 
 pub read-spec : {M : Type 1} → statement M
 read-spec =
     tie.close
     (tie.spec
-    is-hexadecimal-requires
     returns
-    is-whole-requires
+    pair-requires
     returns-2
-    byte-requires
-    fields-requires
-    returns-3)
+    array-read-least
+    job-requires
+    returns-3
+    wide-requires
+    mul-if4
+    returns-4
+    inject-requires
+    deliver-requires
+    single-requires
+    returns-5
+    returns-6
+    returns-7)

@@ -1,0 +1,109 @@
+-- `frames::deliver` meets its contract: five codes, judged by their sum.
+use native.Mathlib.Omega.{arith}
+use borrow.Author.Needs.{needs}
+use Rattle.frames.specs.CodeLaws.{pair-small}
+use Rattle.frames.specs.FieldLaws.{deliver-none, deliver-fields}
+use Rattle.frames.proofs.deliver.Statement.{statement}
+use Rattle.frames.proofs.deliver.Tie as tie
+
+pair-requires : tie.Need-pair-requires
+pair-requires c κs = search needs
+
+pair-requires-2 : tie.Need-pair-requires-2
+pair-requires-2 c κs = search needs
+
+pair-requires-3 : tie.Need-pair-requires-3
+pair-requires-3 c κs = search needs
+
+pair-requires-4 : tie.Need-pair-requires-4
+pair-requires-4 c κs = search needs
+
+pair-requires-5 : tie.Need-pair-requires-5
+pair-requires-5 c κs = search needs
+
+add-if1 : tie.Need-add-if1
+add-if1 c =
+    let h1 = pair-small _ _ _ (c .before .before .before .before .pair .ensures) in
+    let h2 = pair-small _ _ _ (c .before .before .before .pair2 .ensures) in
+    search needs
+
+add-if1-2 : tie.Need-add-if1-2
+add-if1-2 c =
+    let h1 = pair-small _ _ _ (c .before .before .before .before .pair .ensures) in
+    let h2 = pair-small _ _ _ (c .before .before .before .pair2 .ensures) in
+    let h3 = pair-small _ _ _ (c .before .before .pair3 .ensures) in
+    search needs
+
+add-if1-3 : tie.Need-add-if1-3
+add-if1-3 c =
+    let h1 = pair-small _ _ _ (c .before .before .before .before .pair .ensures) in
+    let h2 = pair-small _ _ _ (c .before .before .before .pair2 .ensures) in
+    let h3 = pair-small _ _ _ (c .before .before .pair3 .ensures) in
+    let h4 = pair-small _ _ _ (c .before .pair4 .ensures) in
+    search needs
+
+add-if1-4 : tie.Need-add-if1-4
+add-if1-4 c =
+    let h1 = pair-small _ _ _ (c .before .before .before .before .pair .ensures) in
+    let h2 = pair-small _ _ _ (c .before .before .before .pair2 .ensures) in
+    let h3 = pair-small _ _ _ (c .before .before .pair3 .ensures) in
+    let h4 = pair-small _ _ _ (c .before .pair4 .ensures) in
+    let h5 = pair-small _ _ _ (c .pair5 .ensures) in
+    search needs
+
+returns : tie.Need-returns
+returns c =
+    let p = c .before in
+    deliver-none _ _ _ _ _ _ (p .before .before .before .before .before .before .pre)
+    (p .before .before .before .before .pair .ensures) (p .before .before .before .pair2 .ensures) (p .before .before .pair3 .ensures) (p .before .pair4 .ensures) (p .pair5 .ensures)
+    (c .if1 .taken)
+
+narrow-requires : tie.Need-narrow-requires
+narrow-requires c κs = search needs
+
+narrow-requires-2 : tie.Need-narrow-requires-2
+narrow-requires-2 c κs = search needs
+
+narrow-requires-3 : tie.Need-narrow-requires-3
+narrow-requires-3 c κs = search needs
+
+narrow-requires-4 : tie.Need-narrow-requires-4
+narrow-requires-4 c κs = search needs
+
+narrow-requires-5 : tie.Need-narrow-requires-5
+narrow-requires-5 c κs = search needs
+
+two-bytes-requires : tie.Need-two-bytes-requires
+two-bytes-requires c κs = search needs
+
+returns-2 : tie.Need-returns-2
+returns-2 c =
+    let n = c .before in
+    let e = n .before .before .before .before .before in
+    let p = e .before in
+    rw (c .two-bytes .ensures, n .narrow5 .ensures, n .before .narrow4 .ensures, n .before .before .narrow3 .ensures, n .before .before .before .narrow2 .ensures, n .before .before .before .before .narrow .ensures)
+    (deliver-fields _ _ _ _ _ _ (p .before .before .before .before .before .before .pre)
+    (p .before .before .before .before .pair .ensures) (p .before .before .before .pair2 .ensures) (p .before .before .pair3 .ensures) (p .before .pair4 .ensures) (p .pair5 .ensures)
+    (e .if1 .left))
+
+pub deliver-spec : {M : Type 1} → statement M
+deliver-spec =
+    tie.close
+    (tie.spec
+    pair-requires
+    pair-requires-2
+    pair-requires-3
+    pair-requires-4
+    pair-requires-5
+    add-if1
+    add-if1-2
+    add-if1-3
+    add-if1-4
+    returns
+    narrow-requires
+    narrow-requires-2
+    narrow-requires-3
+    narrow-requires-4
+    narrow-requires-5
+    two-bytes-requires
+    returns-2)

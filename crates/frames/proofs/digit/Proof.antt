@@ -1,0 +1,66 @@
+-- `frames::digit` meets its contract: a range of characters after the other, and what stands in none of them.
+use mathlib.Core.Bool.{false}
+use mathlib.Core.Logic.{⊎-elim}
+use mathlib.Core.Path.{_∙_}
+use native.Mathlib.Omega.{arith}
+use borrow.Author.Needs.{needs}
+use borrow.Author.Tests.{ltb-true, ltb-false}
+use Rattle.frames.specs.Codes.{or-no-digit, digit-code}
+use Rattle.frames.specs.DigitLaws.{between-low, between-high, digit-decimal, digit-upper, digit-lower, digit-none}
+use Rattle.frames.proofs.digit.Statement.{statement}
+use Rattle.frames.proofs.digit.Tie as tie
+
+sub-wide : tie.Need-sub-wide
+sub-wide c = search needs
+
+wide-requires : tie.Need-wide-requires
+wide-requires c κs = search needs
+
+returns : tie.Need-returns
+unfolding digit-code or-no-digit
+returns c = c .wide .ensures ∙ rw (digit-decimal _ (c .before .before .if1 .taken) (ltb-true _ _ (c .before .if2 .taken)))
+
+sub-wide-2 : tie.Need-sub-wide-2
+sub-wide-2 c = search needs
+
+wide-requires-2 : tie.Need-wide-requires-2
+wide-requires-2 c κs = search needs
+
+returns-2 : tie.Need-returns-2
+unfolding digit-code or-no-digit
+returns-2 c = c .wide2 .ensures ∙ rw (digit-upper _ (c .before .before .if3 .taken) (ltb-true _ _ (c .before .if4 .taken)))
+
+sub-wide-3 : tie.Need-sub-wide-3
+sub-wide-3 c = search needs
+
+wide-requires-3 : tie.Need-wide-requires-3
+wide-requires-3 c κs = search needs
+
+returns-3 : tie.Need-returns-3
+unfolding digit-code or-no-digit
+returns-3 c = c .wide3 .ensures ∙ rw (digit-lower _ (c .before .before .if5 .taken) (ltb-true _ _ (c .before .if6 .taken)))
+
+returns-4 : tie.Need-returns-4
+unfolding digit-code or-no-digit
+returns-4 c =
+    let x = c .before .before .before .args .x in
+    rw
+    (digit-none x
+    (⊎-elim (λ h. between-high 48 57 x (ltb-false _ _ (h .1 .left))) (λ h. between-low 48 57 x (omega (arith, h .left))) (c .before .before .if1 .came))
+    (⊎-elim (λ h. between-high 65 70 x (ltb-false _ _ (h .1 .left))) (λ h. between-low 65 70 x (omega (arith, h .left))) (c .before .if3 .came))
+    (⊎-elim (λ h. between-high 97 102 x (ltb-false _ _ (h .1 .left))) (λ h. between-low 97 102 x (omega (arith, h .left))) (c .if5 .came)))
+
+pub digit-spec : {M : Type 1} → statement M
+digit-spec =
+    tie.close
+    (tie.spec
+    sub-wide
+    wide-requires
+    returns
+    sub-wide-2
+    wide-requires-2
+    returns-2
+    sub-wide-3
+    wide-requires-3
+    returns-3
+    returns-4)

@@ -1,0 +1,58 @@
+-- `frames::pair` meets its contract: the codes of two characters.
+use mathlib.Core.Path.{sym, _∙_}
+use native.Mathlib.Omega.{arith}
+use borrow.Author.Needs.{needs}
+use Rattle.frames.specs.Codes.{digit-code, codes}
+use Rattle.frames.specs.CodeLaws.{code-small}
+use Rattle.frames.specs.DecodeLaws.{getD-pairs}
+use Rattle.frames.proofs.pair.Statement.{statement}
+use Rattle.frames.proofs.pair.Tie as tie
+
+mul-digit : tie.Need-mul-digit
+mul-digit c = search needs
+
+shared-slice-read-digit : tie.Need-shared-slice-read-digit
+shared-slice-read-digit c = search needs
+
+digit-requires : tie.Need-digit-requires
+digit-requires c κs = search needs
+
+mul-digit-2 : tie.Need-mul-digit-2
+mul-digit-2 c = search needs
+
+add-digit : tie.Need-add-digit
+add-digit c = search needs
+
+shared-slice-read-digit-2 : tie.Need-shared-slice-read-digit-2
+shared-slice-read-digit-2 c = search needs
+
+digit-requires-2 : tie.Need-digit-requires-2
+digit-requires-2 c κs = search needs
+
+mul-result : tie.Need-mul-result
+mul-result c = let h = code-small _ _ (c .before .before .digit .ensures) in search needs
+
+add-result : tie.Need-add-result
+add-result c =
+    let h = code-small _ _ (c .before .before .digit .ensures) in
+    let k = code-small _ _ (c .digit2 .ensures) in
+    search needs
+
+returns : tie.Need-returns
+unfolding codes
+returns c = sym (getD-pairs digit-code _ _ (c .before .before .before .before .before .pre) ∙ rw (← c .before .before .digit .ensures, ← c .digit2 .ensures))
+
+pub pair-spec : {M : Type 1} → statement M
+pair-spec =
+    tie.close
+    (tie.spec
+    mul-digit
+    shared-slice-read-digit
+    digit-requires
+    mul-digit-2
+    add-digit
+    shared-slice-read-digit-2
+    digit-requires-2
+    mul-result
+    add-result
+    returns)

@@ -1,0 +1,103 @@
+-- `frames::single` meets its contract: one code judged, and each kind at its number.
+use native.Mathlib.Omega.{arith}
+use borrow.Author.Needs.{needs}
+use borrow.Author.Tests.{ne-eqb}
+use Rattle.protocol.specs.Frames.{parts}
+use Rattle.frames.specs.CodeLaws.{byte-of}
+use Rattle.frames.specs.FieldLaws.{single-none, single-field}
+use Rattle.frames.specs.Read.{read-as}
+use Rattle.frames.proofs.single.Statement.{statement}
+use Rattle.frames.proofs.single.Tie as tie
+
+pair-requires : tie.Need-pair-requires
+pair-requires c κs = search needs
+
+returns : tie.Need-returns
+returns c = single-none _ _ _ (c .before .before .before .pre .0) (c .before .pair .ensures) (c .if1 .taken)
+
+narrow-requires : tie.Need-narrow-requires
+narrow-requires c κs = search needs
+
+narrow-requires-2 : tie.Need-narrow-requires-2
+narrow-requires-2 c κs = search needs
+
+narrow-requires-3 : tie.Need-narrow-requires-3
+narrow-requires-3 c κs = search needs
+
+narrow-requires-4 : tie.Need-narrow-requires-4
+narrow-requires-4 c κs = search needs
+
+narrow-requires-5 : tie.Need-narrow-requires-5
+narrow-requires-5 c κs = search needs
+
+returns-2 : tie.Need-returns-2
+unfolding parts read-as
+returns-2 c =
+    let e = c .before .before in
+    let p = e .before in
+    rw (single-field _ _ _ (p .before .before .pre .0) (p .pair .ensures) (e .if1 .left), c .before .match .keys1, byte-of _ 1 _ (p .pair .ensures), c .narrow .ensures)
+
+returns-3 : tie.Need-returns-3
+unfolding parts read-as
+returns-3 c =
+    let e = c .before .before in
+    let p = e .before in
+    rw (single-field _ _ _ (p .before .before .pre .0) (p .pair .ensures) (e .if1 .left), c .before .match .keys2, byte-of _ 1 _ (p .pair .ensures), c .narrow2 .ensures)
+
+returns-4 : tie.Need-returns-4
+unfolding parts read-as
+returns-4 c =
+    let e = c .before .before in
+    let p = e .before in
+    rw (single-field _ _ _ (p .before .before .pre .0) (p .pair .ensures) (e .if1 .left), c .before .match .keys3, byte-of _ 1 _ (p .pair .ensures), c .narrow3 .ensures)
+
+returns-5 : tie.Need-returns-5
+unfolding parts read-as
+returns-5 c =
+    let e = c .before .before in
+    let p = e .before in
+    rw (single-field _ _ _ (p .before .before .pre .0) (p .pair .ensures) (e .if1 .left), c .before .match .keys4, byte-of _ 1 _ (p .pair .ensures), c .narrow4 .ensures)
+
+returns-6 : tie.Need-returns-6
+unfolding parts read-as
+returns-6 c =
+    let e = c .before .before in
+    let p = e .before in
+    rw (single-field _ _ _ (p .before .before .pre .0) (p .pair .ensures) (e .if1 .left), c .before .match .keys5, byte-of _ 1 _ (p .pair .ensures), c .narrow5 .ensures)
+
+returns-7 : tie.Need-returns-7
+unfolding parts read-as
+returns-7 c =
+    let e = c .before in
+    let p = e .before in
+    let s = p .before .before in
+    let k = s .args .kind in
+    let r = c .match .rest in
+    rw
+    (single-field _ _ _ (s .pre .0) (p .pair .ensures) (e .if1 .left),
+    ne-eqb k 0x01 (λ h. omega (arith, s .pre .1)),
+    ne-eqb k 0x10 (λ h. omega (arith, s .pre .1)),
+    ne-eqb k 0x11 (λ h. omega (arith, s .pre .1)),
+    ne-eqb _ _ (r .0 .0 .0 .0 .1),
+    ne-eqb _ _ (r .0 .0 .0 .1),
+    ne-eqb _ _ (r .0 .0 .1),
+    ne-eqb _ _ (r .0 .1),
+    ne-eqb _ _ (r .1))
+
+pub single-spec : {M : Type 1} → statement M
+single-spec =
+    tie.close
+    (tie.spec
+    pair-requires
+    returns
+    narrow-requires
+    narrow-requires-2
+    narrow-requires-3
+    narrow-requires-4
+    narrow-requires-5
+    returns-2
+    returns-3
+    returns-4
+    returns-5
+    returns-6
+    returns-7)
