@@ -1,5 +1,5 @@
 -- A line by its kind's two characters, and by the sum of those behind them.
-use mathlib.Core.Bool.{Bool, true, false, cond, _&&_}
+use mathlib.Core.Bool.{Bool, true, false, _&&_}
 use mathlib.Core.List.{List, [], _∷_}
 use mathlib.Core.Option.{none}
 use mathlib.Core.Path.{_≡_, refl, sym, _∙_}
@@ -12,8 +12,8 @@ use lib.Seq.{drop-cons}
 use Rattle.lists.specs.Lists.{allb}
 use Rattle.protocol.specs.Frames.{Line, parts}
 use Rattle.frames.specs.Decode.{is-digit, pairs, decoded, is-hexadecimal}
-use Rattle.frames.specs.Codes.{no-digit, digit-code, codes, total}
-use Rattle.frames.specs.CodeLaws.{Judged, judge, judge-pair, judged-true, judged-small, judged-false, and-assoc, decoded-codes}
+use Rattle.frames.specs.Codes.{no-digit, codes, total}
+use Rattle.frames.specs.CodeLaws.{Judged, judge, judge-pair, judged-true, judged-small, judged-false, and-assoc}
 use Rattle.frames.specs.Read.{behind-kind}
 
 pub hexadecimal-odd : (l : Line) → (length l % 2 ≡ 0 → ⊥) → is-hexadecimal l ≡ false

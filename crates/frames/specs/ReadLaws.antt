@@ -7,14 +7,14 @@ use mathlib.Core.Path.{_≡_, refl, sym, _∙_}
 use Prim.Native.Nat.{ℕ, _+_, _*_, _<_, _≤_, _/_, _%_}
 use native.Mathlib.Numerals.{add-one}
 use native.Mathlib.Omega.{arith}
-use borrow.Author.Tests.{le-leb, lt-leb, eq-eqb, ne-eqb}
+use borrow.Author.Tests.{le-leb, eq-eqb, ne-eqb}
 use lib.Dec.{eqb, leb}
 use lib.ListN.{length, getD, drop, List·getD-eq-default, drop-of-length-le}
 use lib.Seq.{drop-cons}
 use Rattle.lists.specs.Lists.{allb}
 use Rattle.lists.specs.Tests.{either, lt?, eq?}
 use Rattle.protocol.specs.Frames.{Line, bytes, least, least-length, exact-length, is-whole, parts, frame, frame-of}
-use Rattle.frames.specs.Decode.{decoded, is-hexadecimal, is-digit}
+use Rattle.frames.specs.Decode.{decoded, is-hexadecimal}
 use Rattle.frames.specs.DecodeLaws.{length-decoded, bytes-decoded}
 use Rattle.frames.specs.Codes.{no-digit, codes}
 use Rattle.frames.specs.CodeLaws.{decoded-codes}

@@ -1,8 +1,8 @@
 // Frames from standard input, answers to standard output, in constant memory.
 use libc::STDIN_FILENO;
 use libc::STDOUT_FILENO;
-use transcript::LINE;
 use store::STORE;
+use transcript::LINE;
 
 // How many bytes of the line under way there are, and whether the input goes on.
 struct Session {

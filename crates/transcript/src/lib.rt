@@ -113,7 +113,13 @@ fn feed_on(s: &mut [u64], line: &mut [u8], n: usize, input: &[u8], out: &mut [u8
     }
 }
 
-pub fn feed(s: &mut [u64; STORE], line: &mut [u8; LINE], n: usize, input: &[u8], out: &mut [u8]) -> Fed
+pub fn feed(
+    s: &mut [u64; STORE],
+    line: &mut [u8; LINE],
+    n: usize,
+    input: &[u8],
+    out: &mut [u8],
+) -> Fed
     ensures { λ f. ⌜ Feeding (reading (now (s .entry)) (now (line .entry)) n) (now (input .entry)) (now (out .entry)) f (now (s .exit)) (now (line .exit)) (now (out .exit)) ⌝ }
 {
     feed_on(s, line, n, input, out)
