@@ -11,7 +11,7 @@ extern "C" {
 }
 
 /// No line is longer than this, newline included: a show has 14 digits.
-const LINE_SPACE: usize = 15;
+pub const LINE_SPACE: usize = 15;
 
 /// The engine's output for a whole input, written into `out`; its length, if there is room.
 pub fn write_transcript(input: &[u8], out: &mut [u8]) -> Option<usize> {

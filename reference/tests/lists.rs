@@ -134,7 +134,7 @@ fn bad_calls() {
         (&["--chares", "x", "1"], "--chares x is not from 1 to 12"),
         (
             &["--frames", "0", "1"],
-            "--frames 0 is not from 1 to 100000",
+            "--frames 0 is not from 1 to 1000000",
         ),
         (
             &["--with", "crash,fire", "1"],

@@ -82,7 +82,7 @@ fn wish(args: &[&str]) -> Result<(), Failure> {
                 wish.machines = Some(within(value()?, "--machines", MIN_MACHINES..=MAX_MACHINES)?)
             }
             "--chares" => wish.chares = Some(within(value()?, "--chares", 1..=MAX_CHARES)?),
-            "--frames" => wish.frames = within(value()?, "--frames", 1..=100_000)?,
+            "--frames" => wish.frames = within(value()?, "--frames", 1..=1_000_000)?,
             "--with" => wish.with = events(value()?)?,
             "--clean" => wish.clean = true,
             _ if arg.starts_with('-') => return usage(format!("there is no option \"{arg}\"")),
