@@ -1,5 +1,5 @@
 -- From the digits of a line to its frame.
-use mathlib.Core.Bool.{Bool, true, false, cond, not, _&&_}
+use mathlib.Core.Bool.{Bool, true, false, cond, not, _&&_, and-true, and-false}
 use mathlib.Core.List.{List, [], _∷_}
 use mathlib.Core.Logic.{⊎-elim}
 use mathlib.Core.Option.{none}
@@ -7,14 +7,14 @@ use mathlib.Core.Path.{_≡_, refl, sym, _∙_}
 use Prim.Native.Nat.{ℕ, _+_, _*_, _<_, _≤_, _/_, _%_}
 use native.Mathlib.Numerals.{add-one}
 use native.Mathlib.Omega.{arith}
-use borrow.Author.Tests.{le-leb, lt-leb, eq-eqb, ne-eqb}
+use borrow.Author.Tests.{le-leb, eq-eqb, ne-eqb}
 use lib.Dec.{eqb, leb}
 use lib.ListN.{length, getD, drop, List·getD-eq-default, drop-of-length-le}
 use lib.Seq.{drop-cons}
 use Rattle.lists.specs.Lists.{allb}
 use Rattle.lists.specs.Tests.{either, lt?, eq?}
 use Rattle.protocol.specs.Frames.{Line, bytes, least, least-length, exact-length, is-whole, parts, frame, frame-of}
-use Rattle.frames.specs.Decode.{decoded, is-hexadecimal, is-digit}
+use Rattle.frames.specs.Decode.{decoded, is-hexadecimal}
 use Rattle.frames.specs.DecodeLaws.{length-decoded, bytes-decoded}
 use Rattle.frames.specs.Codes.{no-digit, codes}
 use Rattle.frames.specs.CodeLaws.{decoded-codes}
@@ -47,14 +47,6 @@ module _ (l : Line) (m a b : ℕ) (hex : is-hexadecimal l ≡ true) (is-a : a �
   job-other n = rw (hex, ← is-a, ← is-b, ne-eqb (length l / 2) (m + a + 3 * b) n)
 
 -- ---- the frame of any line
-and-false : (a : Bool) → (a && false) ≡ false
-and-false true = refl
-and-false false = refl
-
-and-true : (a : Bool) → (a && true) ≡ a
-and-true true = refl
-and-true false = refl
-
 -- a length that is x is at least what x is
 exact-least : (m x n : ℕ) → m ≤ x → (leb m n && eqb n x) ≡ eqb n x
 exact-least m x n h =

@@ -1,4 +1,5 @@
-// From a line of hexadecimal digits to a frame. The digits are read where they stand: nothing is copied.
+// From a line of hexadecimal digits to a frame. The digits are read where they stand: nothing is copied,
+// and a digit is judged and decoded at once.
 ghost use mathlib.Core.Path.{_≡_};
 ghost use Prim.Native.Nat.{_+_, _*_, _<_, _/_, _%_};
 ghost use lib.ListN.{length, getD};
@@ -55,7 +56,8 @@ pub enum Frame {
     Show(u8),
 }
 
-// What stands for a character that is no digit: more than the bytes of a frame together, the job's apart.
+// What stands for a character that is no digit: more than the bytes of a frame together, the job's apart, so
+// that one test of their sum judges them all; and a multiple of 256, so that `byte` takes it for 0.
 const NO_DIGIT: usize = 4096;
 
 fn wide(x: u8) -> usize

@@ -1,5 +1,4 @@
 -- `frames::deliver` meets its contract: five codes, judged by their sum.
-use native.Mathlib.Omega.{arith}
 use borrow.Author.Needs.{needs}
 use Rattle.frames.specs.CodeLaws.{pair-small}
 use Rattle.frames.specs.FieldLaws.{deliver-none, deliver-fields}

@@ -1,5 +1,4 @@
 -- `frames::digit` meets its contract: a range of characters after the other, and what stands in none of them.
-use mathlib.Core.Bool.{false}
 use mathlib.Core.Logic.{⊎-elim}
 use mathlib.Core.Path.{_∙_}
 use native.Mathlib.Omega.{arith}

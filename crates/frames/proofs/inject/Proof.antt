@@ -1,6 +1,4 @@
 -- `frames::inject` meets its contract: four codes, judged by their sum.
-use mathlib.Core.Path.{_∙_}
-use native.Mathlib.Omega.{arith}
 use borrow.Author.Needs.{needs}
 use Rattle.frames.specs.CodeLaws.{pair-small}
 use Rattle.frames.specs.FieldLaws.{inject-none, inject-fields}

@@ -1,6 +1,5 @@
 -- `frames::pair` meets its contract: the codes of two characters.
 use mathlib.Core.Path.{sym, _∙_}
-use native.Mathlib.Omega.{arith}
 use borrow.Author.Needs.{needs}
 use Rattle.frames.specs.Codes.{digit-code, codes}
 use Rattle.frames.specs.CodeLaws.{code-small}

@@ -1,6 +1,5 @@
 -- `frames::read` meets its contract: the kind decides, then the length, then the digits behind the kind.
 use mathlib.Core.Path.{refl, _∙_}
-use native.Mathlib.Omega.{arith}
 use borrow.Author.Needs.{needs}
 use Rattle.protocol.specs.Frames.{least, least-length}
 use Rattle.frames.specs.ReadLaws.{frame-short, frame-unknown, frame-job, frame-length, frame-behind}

@@ -73,16 +73,17 @@ returns-7 c =
     let s = p .before .before in
     let k = s .args .kind in
     let r = c .match .rest in
-    rw
-    (single-field _ _ _ (s .pre .0) (p .pair .ensures) (e .if1 .left),
-    ne-eqb k 0x01 (λ h. omega (arith, s .pre .1)),
-    ne-eqb k 0x10 (λ h. omega (arith, s .pre .1)),
-    ne-eqb k 0x11 (λ h. omega (arith, s .pre .1)),
-    ne-eqb _ _ (r .0 .0 .0 .0 .1),
-    ne-eqb _ _ (r .0 .0 .0 .1),
-    ne-eqb _ _ (r .0 .0 .1),
-    ne-eqb _ _ (r .0 .1),
-    ne-eqb _ _ (r .1))
+    rw (
+      single-field _ _ _ (s .pre .0) (p .pair .ensures) (e .if1 .left),
+      ne-eqb k 0x01 (λ h. omega (arith, s .pre .1)),
+      ne-eqb k 0x10 (λ h. omega (arith, s .pre .1)),
+      ne-eqb k 0x11 (λ h. omega (arith, s .pre .1)),
+      ne-eqb _ _ (r .0 .0 .0 .0 .1),
+      ne-eqb _ _ (r .0 .0 .0 .1),
+      ne-eqb _ _ (r .0 .0 .1),
+      ne-eqb _ _ (r .0 .1),
+      ne-eqb _ _ (r .1),
+    )
 
 pub single-spec : {M : Type 1} → statement M
 single-spec =
