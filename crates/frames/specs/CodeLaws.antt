@@ -1,5 +1,5 @@
 -- Judging by the sum: characters that are no digits make it too large.
-use mathlib.Core.Bool.{Bool, true, false, _&&_}
+use mathlib.Core.Bool.{Bool, true, false, _&&_, and-assoc}
 use mathlib.Core.List.{[], _∷_}
 use mathlib.Core.Logic.{_⊎_, inl, inr}
 use mathlib.Core.Option.{Option, some, none}
@@ -13,8 +13,7 @@ use Rattle.frames.specs.Decode.{or-zero, is-some, digit-value, is-digit,
 use Rattle.frames.specs.DigitLaws.{digit-value-small}
 use Rattle.frames.specs.Codes.{no-digit, or-no-digit, digit-code, codes, total}
 
--- ---- reading: the byte in a code
--- a digit has its value, any other character no-digit in place of 0
+-- ---- reading: a digit has its value, any other character no-digit in place of 0
 abbrev Coded : Bool → ℕ → ℕ → Type 0
 Coded b v c = ((b ≡ true) × (c ≡ v)) ⊎ ((b ≡ false) × (c ≡ no-digit) × (v ≡ 0))
 
@@ -65,10 +64,6 @@ judge-high b s m (inr p) = inr (p .0, omega arith)
 
 pub judge-pair : (x y : ℕ) → Judged (is-digit x && is-digit y) (digit-code x * 16 + digit-code y) 255
 judge-pair x y = both _ _ _ _ _ _ (judge-high _ _ _ (judge-digit x)) (judge-digit y)
-
-pub and-assoc : (a b c : Bool) → (a && b && c) ≡ (a && (b && c))
-and-assoc true b c = refl
-and-assoc false b c = refl
 
 pub judge : (l : Line) → length l % 2 ≡ 0 → Judged (allb is-digit l) (total (codes l)) (255 * (length l / 2))
 unfolding allb codes pairs total

@@ -1,7 +1,7 @@
 -- The ranges of the hexadecimal digits.
-use mathlib.Core.Bool.{true, false, _&&_}
+use mathlib.Core.Bool.{true, false, and-false}
 use mathlib.Core.Option.{some, none}
-use mathlib.Core.Path.{_≡_, refl}
+use mathlib.Core.Path.{_≡_}
 use Prim.Native.Nat.{ℕ, _-_, _<_, _≤_}
 use native.Mathlib.Omega.{arith}
 use borrow.Author.Tests.{le-leb, lt-leb, leb-true}
@@ -18,16 +18,9 @@ pub between-low : (a b x : ℕ) → x < a → between a b x ≡ false
 unfolding between
 between-low a b x p = rw (lt-leb a x p)
 
-and-false : (a b x : ℕ) → b < x → (leb a x && leb x b) ≡ false
-and-false a b x p = rw (lt-leb x b p) (go (leb a x))
-  where
-    go : (t : mathlib.Core.Bool.Bool) → (t && false) ≡ false
-    go true = refl
-    go false = refl
-
 pub between-high : (a b x : ℕ) → b < x → between a b x ≡ false
 unfolding between
-between-high a b x p = and-false a b x p
+between-high a b x p = rw (lt-leb x b p) (and-false (leb a x))
 
 between-top : (a b x : ℕ) → between a b x ≡ true → x ≤ b
 unfolding between

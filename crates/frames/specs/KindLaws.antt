@@ -1,5 +1,5 @@
 -- A line by its kind's two characters, and by the sum of those behind them.
-use mathlib.Core.Bool.{Bool, true, false, _&&_}
+use mathlib.Core.Bool.{Bool, true, false, _&&_, and-false, and-assoc}
 use mathlib.Core.List.{List, [], _∷_}
 use mathlib.Core.Option.{none}
 use mathlib.Core.Path.{_≡_, refl, sym, _∙_}
@@ -13,7 +13,7 @@ use Rattle.lists.specs.Lists.{allb}
 use Rattle.protocol.specs.Frames.{Line, parts}
 use Rattle.frames.specs.Decode.{is-digit, pairs, decoded, is-hexadecimal}
 use Rattle.frames.specs.Codes.{no-digit, codes, total}
-use Rattle.frames.specs.CodeLaws.{Judged, judge, judge-pair, judged-true, judged-small, judged-false, and-assoc}
+use Rattle.frames.specs.CodeLaws.{Judged, judge, judge-pair, judged-true, judged-small, judged-false}
 use Rattle.frames.specs.Read.{behind-kind}
 
 pub hexadecimal-odd : (l : Line) → (length l % 2 ≡ 0 → ⊥) → is-hexadecimal l ≡ false
@@ -25,35 +25,36 @@ unfolding is-hexadecimal
 hexadecimal-even l h = rw (eq-eqb _ 0 h)
 
 -- ---- the kind
-kind-first : (x y : ℕ) (l : Line) → is-hexadecimal (x ∷ y ∷ l) ≡ (is-digit x && is-digit y && is-hexadecimal l)
-unfolding is-hexadecimal allb
-kind-first x y l =
+has-kind : Line → Bool
+has-kind l = is-digit (getD l 0 0) && is-digit (getD l 1 0)
+
+judge-kind : (l : Line) → 2 ≤ length l → Judged (has-kind l) (getD (codes l) 0 0) 255
+unfolding has-kind codes pairs
+judge-kind [] h = absurd (omega arith)
+judge-kind (x ∷ []) h = absurd (omega arith)
+judge-kind (x ∷ y ∷ l) h = judge-pair x y
+
+kind-first : (l : Line) → 2 ≤ length l → is-hexadecimal l ≡ (has-kind l && is-hexadecimal (drop 2 l))
+unfolding has-kind is-hexadecimal allb
+kind-first [] h = absurd (omega arith)
+kind-first (x ∷ []) h = absurd (omega arith)
+kind-first (x ∷ y ∷ l) h =
     let e : suc (suc (length l)) % 2 ≡ length l % 2 = omega arith in
     rw e (go (eqb (length l % 2) 0) (is-digit x) (is-digit y) (allb is-digit l))
   where
     go : (a b c d : Bool) → (a && (b && (c && d))) ≡ (b && c && (a && d))
     go true b c d = sym (and-assoc b c d)
-    go false true true d = refl
-    go false true false d = refl
-    go false false c d = refl
+    go false b c d = sym (and-false (b && c))
 
-pub kind-digits : (l : Line) → 2 ≤ length l → getD (codes l) 0 0 < no-digit → is-hexadecimal l ≡ is-hexadecimal (drop 2 l)
-unfolding codes pairs
-kind-digits [] h c = absurd (omega arith)
-kind-digits (x ∷ []) h c = absurd (omega arith)
-kind-digits (x ∷ y ∷ l) h c = kind-first x y l ∙ rw (judged-true _ _ _ (judge-pair x y) c)
+module _ (l : Line) (h : 2 ≤ length l) where
+  pub kind-digits : getD (codes l) 0 0 < no-digit → is-hexadecimal l ≡ is-hexadecimal (drop 2 l)
+  kind-digits c = kind-first l h ∙ rw (judged-true _ _ _ (judge-kind l h) c)
 
-pub kind-small : (l : Line) → 2 ≤ length l → getD (codes l) 0 0 < no-digit → getD (codes l) 0 0 ≤ 255
-unfolding codes pairs
-kind-small [] h c = absurd (omega arith)
-kind-small (x ∷ []) h c = absurd (omega arith)
-kind-small (x ∷ y ∷ l) h c = judged-small _ _ _ (judge-pair x y) c
+  pub kind-small : getD (codes l) 0 0 < no-digit → getD (codes l) 0 0 ≤ 255
+  kind-small c = judged-small _ _ _ (judge-kind l h) c
 
-pub kind-no-digit : (l : Line) → 2 ≤ length l → no-digit ≤ getD (codes l) 0 0 → is-hexadecimal l ≡ false
-unfolding codes pairs
-kind-no-digit [] h c = absurd (omega arith)
-kind-no-digit (x ∷ []) h c = absurd (omega arith)
-kind-no-digit (x ∷ y ∷ l) h c = kind-first x y l ∙ rw (judged-false _ _ _ (judge-pair x y) (omega arith) c)
+  pub kind-no-digit : no-digit ≤ getD (codes l) 0 0 → is-hexadecimal l ≡ false
+  kind-no-digit c = kind-first l h ∙ rw (judged-false _ _ _ (judge-kind l h) (omega arith) c)
 
 -- ---- behind the kind
 codes-behind : (l : Line) → codes (drop 2 l) ≡ drop 1 (codes l)

@@ -1,11 +1,12 @@
 -- A frame as the code has it.
 use mathlib.Core.Bool.{cond, _&&_}
 use mathlib.Core.Option.{Option, some, none}
-use Prim.Native.Nat.{ℕ, _+_, _*_, _/_}
+use mathlib.Core.Path.{_≡_}
+use Prim.Native.Nat.{ℕ, _+_, _*_, _≤_, _/_}
 use lib.Dec.{eqb}
 use lib.ListN.{length, getD, drop}
 use Rattle.protocol.specs.Frames
-use Rattle.protocol.specs.Frames.{Line, parts, job, inject, deliver, work, checkpoint, crash, restart, show}
+use Rattle.protocol.specs.Frames.{Line, least-length, parts, job, inject, deliver, work, checkpoint, crash, restart, show}
 use Rattle.frames.specs.Decode.{decoded, is-hexadecimal}
 use Rattle.frames.specs.declared.Frame.the-variants.{Garbled, Job, Inject, Deliver, Work, Checkpoint, Crash, Restart, Show}
 use Rattle.frames.specs.declared.Frame.{Frame}
@@ -37,6 +38,13 @@ meaning l (Show c) = some (show c)
 -- A line of kind 01, m its least length.
 unfoldable pub job-as : Line → ℕ → Frame
 job-as l m = cond (is-hexadecimal l && eqb (length l / 2) (m + getD (decoded l) 1 0 + 3 * getD (decoded l) 2 0)) Job Garbled
+
+-- n characters are the length of kind k, which is not the job.
+pub record Sized (n k : ℕ) : Type 0 where
+  pub some-pair : 2 ≤ n
+  pub known : k ≤ 22
+  pub other : k ≡ 1 → ⊥
+  pub exact : n ≡ 2 * least-length k
 
 -- The frame of a kind whose two digits are judged, and whose length is right.
 unfoldable pub behind-kind : Line → ℕ → Option Frames.Frame

@@ -1,5 +1,5 @@
 -- From the digits of a line to its frame.
-use mathlib.Core.Bool.{Bool, true, false, cond, not, _&&_}
+use mathlib.Core.Bool.{Bool, true, false, cond, not, _&&_, and-true, and-false}
 use mathlib.Core.List.{List, [], _∷_}
 use mathlib.Core.Logic.{⊎-elim}
 use mathlib.Core.Option.{none}
@@ -19,7 +19,7 @@ use Rattle.frames.specs.DecodeLaws.{length-decoded, bytes-decoded}
 use Rattle.frames.specs.Codes.{no-digit, codes}
 use Rattle.frames.specs.CodeLaws.{decoded-codes}
 use Rattle.frames.specs.KindLaws.{hexadecimal-odd, kind-digits, kind-small, kind-no-digit}
-use Rattle.frames.specs.Read.{read-as, meaning, job-as, behind-kind}
+use Rattle.frames.specs.Read.{read-as, meaning, job-as, behind-kind, Sized}
 use Rattle.frames.specs.declared.Frame.the-variants.{Garbled, Job}
 
 -- ---- a loop over the characters: those before i are digits
@@ -47,14 +47,6 @@ module _ (l : Line) (m a b : ℕ) (hex : is-hexadecimal l ≡ true) (is-a : a �
   job-other n = rw (hex, ← is-a, ← is-b, ne-eqb (length l / 2) (m + a + 3 * b) n)
 
 -- ---- the frame of any line
-and-false : (a : Bool) → (a && false) ≡ false
-and-false true = refl
-and-false false = refl
-
-and-true : (a : Bool) → (a && true) ≡ a
-and-true true = refl
-and-true false = refl
-
 -- a length that is x is at least what x is
 exact-least : (m x n : ℕ) → m ≤ x → (leb m n && eqb n x) ≡ eqb n x
 exact-least m x n h =
@@ -126,13 +118,14 @@ module _ (l : Line) (k : ℕ) (h : 2 ≤ length l) (is-kind : k ≡ getD (codes 
           (λ e. rw (frame-garbled l (hexadecimal-odd l e)))
           (eq? (length l % 2) 0)
 
-      pub frame-behind : (n : ℕ) → k ≡ n → length l ≡ 2 * m → read-as (behind-kind l n) ≡ read-as (frame l)
-      unfolding behind-kind
-      frame-behind n kn e =
-          let some : m ≡ 0 → ⊥ = λ z. omega arith in
-          let half : length l / 2 ≡ m = omega arith in
-          let whole : is-whole (decoded l) ≡ true = whole-other ∙ rw (ne-eqb m 0 some, half, le-leb m m (omega arith), eq-eqb m m refl) in
-          rw (← kn, frame-cond l, whole, kind-byte (omega arith), kind-digits l h (omega arith), and-true (is-hexadecimal (drop 2 l)))
+  pub frame-behind : Sized (length l) k → read-as (behind-kind l k) ≡ read-as (frame l)
+  unfolding behind-kind
+  frame-behind z =
+      let m = least-length k in
+      let some : m ≡ 0 → ⊥ = λ e. omega arith in
+      let half : length l / 2 ≡ m = omega arith in
+      let whole : is-whole (decoded l) ≡ true = whole-other (z .known) m refl (z .other) ∙ rw (ne-eqb m 0 some, half, le-leb m m (omega arith), eq-eqb m m refl) in
+      rw (frame-cond l, whole, kind-byte (omega arith), kind-digits l h (omega arith), and-true (is-hexadecimal (drop 2 l)))
 
 -- ---- nothing is lost: the frame of a line, from what the code has of it
 module _ (l : Line) where

@@ -2,12 +2,13 @@
 use mathlib.Core.Bool.{Bool, true, _&&_, _||_}
 use mathlib.Core.Logic.{⊎-elim}
 use mathlib.Core.Path.{_≡_, refl}
-use Prim.Native.Nat.{ℕ, zero, suc, _*_, _<_, _≤_}
+use Prim.Native.Nat.{ℕ, zero, suc, _<_, _≤_}
 use native.Mathlib.Omega.{arith}
 use borrow.Author.Tests.{leb-true, ltb-true, eqb-true, ne-eqb}
 use lib.Dec.{eqb, leb, ltb}
 use Rattle.lists.specs.Tests.{eq?, and-l, and-r}
 use Rattle.protocol.specs.Frames.{least, least-length}
+use Rattle.frames.specs.Read.{Sized}
 
 below : (ℕ → Bool) → ℕ → Bool
 below p zero = true
@@ -32,14 +33,13 @@ pub least-small : (k m : ℕ) → k ≤ 22 → m ≡ least-length k → m ≤ 6
 unfolding below small-entry least-length least
 least-small k m h e = rw e (leb-true (least-length k) 6 (below-at small-entry 23 k refl (omega arith)))
 
--- the kinds but 01, 10 and 11: n is the length of a line, and m its entry
-module _ (n k m : ℕ) (h : 2 ≤ n) (known : k ≤ 22) (is-least : m ≡ least-length k) (exact : n ≡ 2 * m)
-    (a : k ≡ 1 → ⊥) (b : k ≡ 16 → ⊥) (c : k ≡ 17 → ⊥) where
+-- the kinds but 01, 10 and 11
+module _ (n k : ℕ) (z : Sized n k) (b : k ≡ 16 → ⊥) (c : k ≡ 17 → ⊥) where
   single : (ltb 17 k && eqb (least-length k) 2) ≡ true
   unfolding single-entry
   single =
       let some : least-length k ≡ 0 → ⊥ = λ e. omega arith in
-      rw (ne-eqb k 1 a, ne-eqb k 16 b, ne-eqb k 17 c, ne-eqb (least-length k) 0 some) at (below-at single-entry 23 k all-entries (omega arith))
+      rw (ne-eqb k 1 (z .other), ne-eqb k 16 b, ne-eqb k 17 c, ne-eqb (least-length k) 0 some) at (below-at single-entry 23 k all-entries (omega arith))
 
   pub single-line : (n ≡ 4) × (17 < k)
   single-line =

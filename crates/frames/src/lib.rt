@@ -1,11 +1,12 @@
-// From a line of hexadecimal digits to a frame. The digits are read where they stand: nothing is copied.
+// From a line of hexadecimal digits to a frame. The digits are read where they stand: nothing is copied,
+// and a digit is judged and decoded at once.
 ghost use mathlib.Core.Path.{_≡_};
 ghost use Prim.Native.Nat.{_+_, _*_, _<_, _/_, _%_};
 ghost use lib.ListN.{length, getD};
 ghost use Rattle.protocol.specs.Frames.{frame};
 ghost use Rattle.frames.specs.Decode.{decoded, is-hexadecimal};
 ghost use Rattle.frames.specs.Codes.{digit-code, codes};
-ghost use Rattle.frames.specs.Read.{read-as, job-as, behind-kind};
+ghost use Rattle.frames.specs.Read.{read-as, job-as, behind-kind, Sized};
 
 // The least length of each kind of frame, by kind; 0 is no kind.
 const LEAST: [u8; 23] = [
@@ -55,7 +56,8 @@ pub enum Frame {
     Show(u8),
 }
 
-// What stands for a character that is no digit: more than the bytes of a frame together, the job's apart.
+// What stands for a character that is no digit: more than the bytes of a frame together, the job's apart, so
+// that one test of their sum judges them all; and a multiple of 256, so that `byte` takes it for 0.
 const NO_DIGIT: usize = 4096;
 
 fn wide(x: u8) -> usize
@@ -203,6 +205,18 @@ fn single(line: &[u8], kind: usize) -> Frame
     }
 }
 
+// Any kind but 01. Not in `read`, where these calls stand behind so many tests that the compiler leaves them calls.
+fn fields(line: &[u8], kind: usize) -> Frame
+    requires { ⌜ Sized (length (now line)) kind ⌝ }
+    ensures { λ r. ⌜ r ≡ read-as (behind-kind (now (line .entry)) kind) ⌝ }
+{
+    match kind {
+        0x10 => inject(line),
+        0x11 => deliver(line),
+        _ => single(line, kind),
+    }
+}
+
 pub fn read(line: &[u8]) -> Frame
     ensures { λ r. ⌜ r ≡ read-as (frame (now (line .entry))) ⌝ }
 {
@@ -220,9 +234,5 @@ pub fn read(line: &[u8]) -> Frame
     if line.len() != 2 * wide(least) {
         return Frame::Garbled;
     }
-    match kind {
-        0x10 => inject(line),
-        0x11 => deliver(line),
-        _ => single(line, kind),
-    }
+    fields(line, kind)
 }

@@ -3,7 +3,7 @@ use mathlib.Core.Path.{refl, _∙_}
 use borrow.Author.Needs.{needs}
 use Rattle.protocol.specs.Frames.{least, least-length}
 use Rattle.frames.specs.ReadLaws.{frame-short, frame-unknown, frame-job, frame-length, frame-behind}
-use Rattle.frames.specs.TableLaws.{least-small, single-line}
+use Rattle.frames.specs.TableLaws.{least-small}
 use Rattle.frames.proofs.read.Statement.{statement}
 use Rattle.frames.proofs.read.Tie as tie
 
@@ -44,46 +44,19 @@ returns-4 c =
     let p = k .before in
     frame-length _ _ (p .before .if1 .left) (p .pair .ensures) (k .if2 .left) _ (c .before .wide .ensures) (o .if3 .left) (c .if4 .taken)
 
-inject-requires : tie.Need-inject-requires
-inject-requires c κs = c .before .if4 .left ∙ rw (c .before .before .wide .ensures, c .match .keys1)
-
-deliver-requires : tie.Need-deliver-requires
-deliver-requires c κs = c .before .if4 .left ∙ rw (c .before .before .wide .ensures, c .match .keys2)
-
-single-requires : tie.Need-single-requires
+fields-requires : tie.Need-fields-requires
 unfolding least-length least
-single-requires c κs =
-    let e = c .before in
-    let o = e .before .before in
+fields-requires c κs =
+    let w = c .before in
+    let o = w .before in
     let k = o .before in
-    single-line _ _ _ (k .before .before .if1 .left) (k .if2 .left) (e .before .wide .ensures) (e .if4 .left) (o .if3 .left) (c .match .rest .0 .1) (c .match .rest .1)
+    record { some-pair = k .before .before .if1 .left; known = k .if2 .left; other = o .if3 .left; exact = c .if4 .left ∙ rw (w .wide .ensures) }
 
 returns-5 : tie.Need-returns-5
 unfolding least-length least
 returns-5 c =
-    let e = c .before .before in
-    let o = e .before .before in
-    let k = o .before in
-    let p = k .before in
-    c .inject .ensures ∙ frame-behind _ _ (p .before .if1 .left) (p .pair .ensures) (k .if2 .left) _ (e .before .wide .ensures) (o .if3 .left) _ (c .before .match .keys1) (e .if4 .left)
-
-returns-6 : tie.Need-returns-6
-unfolding least-length least
-returns-6 c =
-    let e = c .before .before in
-    let o = e .before .before in
-    let k = o .before in
-    let p = k .before in
-    c .deliver .ensures ∙ frame-behind _ _ (p .before .if1 .left) (p .pair .ensures) (k .if2 .left) _ (e .before .wide .ensures) (o .if3 .left) _ (c .before .match .keys2) (e .if4 .left)
-
-returns-7 : tie.Need-returns-7
-unfolding least-length least
-returns-7 c =
-    let e = c .before .before in
-    let o = e .before .before in
-    let k = o .before in
-    let p = k .before in
-    c .single .ensures ∙ frame-behind _ _ (p .before .if1 .left) (p .pair .ensures) (k .if2 .left) _ (e .before .wide .ensures) (o .if3 .left) _ refl (e .if4 .left)
+    let p = c .before .before .before .before .before in
+    c .fields .ensures ∙ frame-behind _ _ (p .before .if1 .left) (p .pair .ensures) (fields-requires (c .before) (c .fields .lifetimes))
 
 pub read-spec : {M : Type 1} → statement M
 read-spec =
@@ -98,9 +71,5 @@ read-spec =
     wide-requires
     mul-if4
     returns-4
-    inject-requires
-    deliver-requires
-    single-requires
-    returns-5
-    returns-6
-    returns-7)
+    fields-requires
+    returns-5)
