@@ -5,17 +5,11 @@ use borrow.Author.Needs.{needs}
 use Rattle.checkpoint.proofs.both_up.Statement.{statement}
 use Rattle.checkpoint.proofs.both_up.Tie as tie
 
-is-up-requires : tie.Need-is-up-requires
-is-up-requires c κs = search needs
-
 returns : tie.Need-returns
 returns c = rw (sym (c .before .is-up .ensures) ∙ not-true _ (c .if1 .taken))
-
-is-up-requires-2 : tie.Need-is-up-requires-2
-is-up-requires-2 c κs = search needs
 
 returns-2 : tie.Need-returns-2
 returns-2 c = rw (sym (c .before .before .is-up .ensures) ∙ not-false _ (c .before .if1 .left)) (c .is-up2 .ensures)
 
 pub both-up-spec : {M : Type 1} → statement M
-both-up-spec = tie.close (tie.spec is-up-requires returns is-up-requires-2 returns-2)
+both-up-spec = tie.close (tie.spec (λ c κs. search needs) returns (λ c κs. search needs) returns-2)

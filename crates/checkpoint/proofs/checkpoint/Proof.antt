@@ -8,21 +8,12 @@ use Rattle.checkpoint.specs.Whole.{checkpoint-in, checkpoint-is}
 use Rattle.checkpoint.proofs.checkpoint.Statement.{statement}
 use Rattle.checkpoint.proofs.checkpoint.Tie as tie
 
-judge-requires : tie.Need-judge-requires
-judge-requires c κs = search needs
-
-same-length : tie.Need-same-length
-same-length c = search needs
-
 returns : tie.Need-returns
 unfolding tried
 returns c =
     let j = c .before in
     let st = j .before .before .before in
     refused (st .args .s .now) _ _ (j .judge .ensures) _ (c .if1 .taken)
-
-fix-requires : tie.Need-fix-requires
-fix-requires c κs = search needs
 
 hold-requires : tie.Need-hold-requires
 hold-requires c κs =
@@ -31,18 +22,6 @@ hold-requires c κs =
     let st = j .before .before .before in
     let h = checkpoint-in (st .args .s .now) (st .args .p) (j .judge .result) (j .judge .ensures) (search needs) in
     (search needs, omega arith)
-
-limits-requires : tie.Need-limits-requires
-limits-requires c κs = search needs
-
-slice-aggregate-clean : tie.Need-slice-aggregate-clean
-slice-aggregate-clean c = search needs
-
-clean-requires : tie.Need-clean-requires
-clean-requires c κs = search needs
-
-same-length-2 : tie.Need-same-length-2
-same-length-2 c = search needs
 
 returns-2 : tie.Need-returns-2
 returns-2 c =
@@ -60,13 +39,13 @@ pub checkpoint-spec : {M : Type 1} → statement M
 checkpoint-spec =
     tie.close
     (tie.spec
-    judge-requires
-    same-length
+    (λ c κs. search needs)
+    (λ c. search needs)
     returns
-    fix-requires
+    (λ c κs. search needs)
     hold-requires
-    limits-requires
-    slice-aggregate-clean
-    clean-requires
-    same-length-2
+    (λ c κs. search needs)
+    (λ c. search needs)
+    (λ c κs. search needs)
+    (λ c. search needs)
     returns-2)

@@ -21,45 +21,6 @@ abbrev μ-loop : tie.MeasureT-loop
 loop-holds : tie.Need-loop-holds Inv-loop μ-loop
 loop-holds c = (omega arith, c .before .before .pre, clean-none _ _)
 
-add-n : tie.Need-add-n Inv-loop μ-loop
-add-n c = search needs
-
-home-requires : tie.Need-home-requires Inv-loop μ-loop
-home-requires c κs = search needs
-
-is-up-requires : tie.Need-is-up-requires Inv-loop μ-loop
-is-up-requires c κs = search needs
-
-cast-a : tie.Need-cast-a Inv-loop μ-loop
-cast-a c = search needs
-
-mul-a : tie.Need-mul-a Inv-loop μ-loop
-mul-a c = search needs
-
-add-a : tie.Need-add-a Inv-loop μ-loop
-add-a c = search needs
-
-add-e : tie.Need-add-e Inv-loop μ-loop
-add-e c = search needs
-
-mul-clean-log : tie.Need-mul-clean-log Inv-loop μ-loop
-mul-clean-log c = search needs
-
-sub-clean-log : tie.Need-sub-clean-log Inv-loop μ-loop
-sub-clean-log c = search needs
-
-part-clean-log-start : tie.Need-part-clean-log-start Inv-loop μ-loop
-part-clean-log-start c = search needs
-
-part-clean-log-end : tie.Need-part-clean-log-end Inv-loop μ-loop
-part-clean-log-end c = search needs
-
-clean-log-requires : tie.Need-clean-log-requires Inv-loop μ-loop
-clean-log-requires c κs = search needs
-
-loop-less : tie.Need-loop-less Inv-loop μ-loop
-loop-less c = search needs
-
 loop-again : tie.Need-loop-again Inv-loop μ-loop
 loop-again c =
     let u = c .before .before in
@@ -69,18 +30,12 @@ loop-again c =
     let e : (LIVE + l .n * MEMORY + MEMORY) - (LIVE + l .n * MEMORY) ≡ MEMORY = omega arith in
     (omega arith, omega (arith, l .inv .1), rw e (clean-hit _ _ (l .n) (l .s) (l .inv .2) (h .home .result) (h .home .ensures .0) (sym (o .is-up .ensures) ∙ u .before .before .if1 .taken) (l .inv .1) (omega arith) (u .clean-log .last .0) (omega arith) (rw e at (u .clean-log .ensures))))
 
-loop-less-2 : tie.Need-loop-less-2 Inv-loop μ-loop
-loop-less-2 c = search needs
-
 loop-again-2 : tie.Need-loop-again-2 Inv-loop μ-loop
 loop-again-2 c =
     let o = c .before in
     let h = o .before .before in
     let l = h .before .before .before .loop in
     (omega arith, l .inv .1, clean-miss _ _ (l .n) (l .s) (l .inv .2) (h .home .result) (h .home .ensures .0) (sym (o .is-up .ensures) ∙ c .if1 .left))
-
-same-length : tie.Need-same-length Inv-loop μ-loop
-same-length c = search needs
 
 returns : tie.Need-returns Inv-loop μ-loop
 returns c =
@@ -94,21 +49,21 @@ clean-spec =
     Inv-loop
     μ-loop
     loop-holds
-    add-n
-    home-requires
-    is-up-requires
-    cast-a
-    mul-a
-    add-a
-    add-e
-    mul-clean-log
-    sub-clean-log
-    part-clean-log-start
-    part-clean-log-end
-    clean-log-requires
-    loop-less
+    (λ c. search needs)
+    (λ c κs. search needs)
+    (λ c κs. search needs)
+    (λ c. search needs)
+    (λ c. search needs)
+    (λ c. search needs)
+    (λ c. search needs)
+    (λ c. search needs)
+    (λ c. search needs)
+    (λ c. search needs)
+    (λ c. search needs)
+    (λ c κs. search needs)
+    (λ c. search needs)
     loop-again
-    loop-less-2
+    (λ c. search needs)
     loop-again-2
-    same-length
+    (λ c. search needs)
     returns)

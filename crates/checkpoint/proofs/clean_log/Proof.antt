@@ -6,21 +6,6 @@ use Rattle.checkpoint.specs.Rows.{clean-is}
 use Rattle.checkpoint.proofs.clean_log.Statement.{statement}
 use Rattle.checkpoint.proofs.clean_log.Tie as tie
 
-sub-clean : tie.Need-sub-clean
-sub-clean c = search needs
-
-part-clean-start : tie.Need-part-clean-start
-part-clean-start c = search needs
-
-part-clean-end : tie.Need-part-clean-end
-part-clean-end c = search needs
-
-clean-requires : tie.Need-clean-requires
-clean-requires c κs = search needs
-
-same-length : tie.Need-same-length
-same-length c = search needs
-
 returns : tie.Need-returns
 returns c =
     let u = c .before .before in
@@ -30,4 +15,4 @@ returns c =
 pub clean-log-spec : {M : Type 1} → statement M
 clean-log-spec =
     tie.close
-    (tie.spec sub-clean part-clean-start part-clean-end clean-requires same-length returns)
+    (tie.spec (λ c. search needs) (λ c. search needs) (λ c. search needs) (λ c κs. search needs) (λ c. search needs) returns)

@@ -11,38 +11,8 @@ use Rattle.checkpoint.specs.Parts.{holding}
 use Rattle.checkpoint.proofs.hold.Statement.{statement}
 use Rattle.checkpoint.proofs.hold.Tie as tie
 
-add-s : tie.Need-add-s
-add-s c = search needs
-
-mul-s : tie.Need-mul-s
-mul-s c = search needs
-
-slice-write-s : tie.Need-slice-write-s
-slice-write-s c = search needs
-
-mul-a : tie.Need-mul-a
-mul-a c = search needs
-
-add-a : tie.Need-add-a
-add-a c = search needs
-
-add-e : tie.Need-add-e
-add-e c = search needs
-
-mul-empty : tie.Need-mul-empty
-mul-empty c = search needs
-
-sub-empty : tie.Need-sub-empty
-sub-empty c = search needs
-
-part-empty-start : tie.Need-part-empty-start
-part-empty-start c = search needs
-
 part-empty-end : tie.Need-part-empty-end
 part-empty-end c = simp length-set (omega arith)
-
-empty-requires : tie.Need-empty-requires
-empty-requires c κs = search needs
 
 same-length : tie.Need-same-length
 same-length c =
@@ -63,16 +33,16 @@ pub hold-spec : {M : Type 1} → statement M
 hold-spec =
     tie.close
     (tie.spec
-    add-s
-    mul-s
-    slice-write-s
-    mul-a
-    add-a
-    add-e
-    mul-empty
-    sub-empty
-    part-empty-start
+    (λ c. search needs)
+    (λ c. search needs)
+    (λ c. search needs)
+    (λ c. search needs)
+    (λ c. search needs)
+    (λ c. search needs)
+    (λ c. search needs)
+    (λ c. search needs)
+    (λ c. search needs)
     part-empty-end
-    empty-requires
+    (λ c κs. search needs)
     same-length
     returns)

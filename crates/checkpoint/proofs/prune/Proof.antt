@@ -5,24 +5,6 @@ use Rattle.checkpoint.specs.Rows.{prune-is}
 use Rattle.checkpoint.proofs.prune.Statement.{statement}
 use Rattle.checkpoint.proofs.prune.Tie as tie
 
-height-requires : tie.Need-height-requires
-height-requires c κs = search needs
-
-sub-prune : tie.Need-sub-prune
-sub-prune c = search needs
-
-part-prune-start : tie.Need-part-prune-start
-part-prune-start c = search needs
-
-part-prune-end : tie.Need-part-prune-end
-part-prune-end c = search needs
-
-prune-requires : tie.Need-prune-requires
-prune-requires c κs = search needs
-
-same-length : tie.Need-same-length
-same-length c = search needs
-
 returns : tie.Need-returns
 returns c =
     let u = c .before .before in
@@ -33,10 +15,10 @@ pub prune-spec : {M : Type 1} → statement M
 prune-spec =
     tie.close
     (tie.spec
-    height-requires
-    sub-prune
-    part-prune-start
-    part-prune-end
-    prune-requires
-    same-length
+    (λ c κs. search needs)
+    (λ c. search needs)
+    (λ c. search needs)
+    (λ c. search needs)
+    (λ c κs. search needs)
+    (λ c. search needs)
     returns)

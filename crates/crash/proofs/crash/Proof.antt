@@ -7,26 +7,11 @@ use Rattle.crash.specs.Whole.{crash-in, covered, uncovered}
 use Rattle.crash.proofs.crash.Statement.{statement}
 use Rattle.crash.proofs.crash.Tie as tie
 
-judge-requires : tie.Need-judge-requires
-judge-requires c κs = search needs
-
-same-length : tie.Need-same-length
-same-length c = search needs
-
 returns : tie.Need-returns
 returns c =
     let j = c .before in
     let st = j .before .before .before in
     refused (st .args .s .now) _ _ (j .judge .ensures) _ (c .if1 .taken)
-
-has-cover-requires : tie.Need-has-cover-requires
-has-cover-requires c κs = search needs
-
-slice-write-s : tie.Need-slice-write-s
-slice-write-s c = search needs
-
-same-length-2 : tie.Need-same-length-2
-same-length-2 c = search needs
 
 returns-2 : tie.Need-returns-2
 returns-2 c =
@@ -44,9 +29,6 @@ go-down-requires c κs =
     let h = crash-in (st .args .s .now) (st .args .p) (j .judge .result) (j .judge .ensures) (search needs) in
     (search needs, omega arith)
 
-same-length-3 : tie.Need-same-length-3
-same-length-3 c = search needs
-
 returns-3 : tie.Need-returns-3
 returns-3 c =
     let g = c .before .before in
@@ -60,13 +42,13 @@ pub crash-spec : {M : Type 1} → statement M
 crash-spec =
     tie.close
     (tie.spec
-    judge-requires
-    same-length
+    (λ c κs. search needs)
+    (λ c. search needs)
     returns
-    has-cover-requires
-    slice-write-s
-    same-length-2
+    (λ c κs. search needs)
+    (λ c. search needs)
+    (λ c. search needs)
     returns-2
     go-down-requires
-    same-length-3
+    (λ c. search needs)
     returns-3)

@@ -11,18 +11,6 @@ use Rattle.crash.specs.Whole.{crash-is}
 use Rattle.crash.proofs.go_down.Statement.{statement}
 use Rattle.crash.proofs.go_down.Tie as tie
 
-add-s : tie.Need-add-s
-add-s c = search needs
-
-mul-s : tie.Need-mul-s
-mul-s c = search needs
-
-slice-write-s : tie.Need-slice-write-s
-slice-write-s c = search needs
-
-lose-live-requires : tie.Need-lose-live-requires
-lose-live-requires c κs = search needs
-
 lose-copies-requires : tie.Need-lose-copies-requires
 lose-copies-requires c κs =
     let st = c .before .before .before .before .before .before in
@@ -60,10 +48,10 @@ pub go-down-spec : {M : Type 1} → statement M
 go-down-spec =
     tie.close
     (tie.spec
-    add-s
-    mul-s
-    slice-write-s
-    lose-live-requires
+    (λ c. search needs)
+    (λ c. search needs)
+    (λ c. search needs)
+    (λ c κs. search needs)
     lose-copies-requires
     lose-notes-requires
     lose-packets-requires

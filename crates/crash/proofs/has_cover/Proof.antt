@@ -20,27 +20,15 @@ abbrev μ-loop : tie.MeasureT-loop
 loop-holds : tie.Need-loop-holds Inv-loop μ-loop
 loop-holds c = (search needs, search needs, each-machine _)
 
-is-normal-requires : tie.Need-is-normal-requires Inv-loop μ-loop
-is-normal-requires c κs = search needs
-
 returns : tie.Need-returns Inv-loop μ-loop
 returns c =
     let l = c .before .before .before .loop in
     no-cover _ _ (each-miss _ 7 (l .q) _ (l .inv .2) (omega arith) (sym (c .before .is-normal .ensures) ∙ not-true _ (c .if1 .taken)))
 
-add-q : tie.Need-add-q Inv-loop μ-loop
-add-q c = search needs
-
-loop-less : tie.Need-loop-less Inv-loop μ-loop
-loop-less c = search needs
-
 loop-again : tie.Need-loop-again Inv-loop μ-loop
 loop-again c =
     let l = c .before .before .before .loop in
     (search needs, search needs, each-hit _ 7 (l .q) _ (l .inv .2) (omega arith) (sym (c .before .is-normal .ensures) ∙ not-false _ (c .if1 .left)))
-
-is-held-requires : tie.Need-is-held-requires Inv-loop μ-loop
-is-held-requires c κs = search needs
 
 returns-2 : tie.Need-returns-2 Inv-loop μ-loop
 returns-2 c =
@@ -54,10 +42,10 @@ has-cover-spec =
     Inv-loop
     μ-loop
     loop-holds
-    is-normal-requires
+    (λ c κs. search needs)
     returns
-    add-q
-    loop-less
+    (λ c. search needs)
+    (λ c. search needs)
     loop-again
-    is-held-requires
+    (λ c κs. search needs)
     returns-2)

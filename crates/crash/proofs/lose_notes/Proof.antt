@@ -20,50 +20,8 @@ abbrev μ-loop : tie.MeasureT-loop
 loop-holds : tie.Need-loop-holds Inv-loop μ-loop
 loop-holds c = (omega arith, c .before .pre, kept-none _ _)
 
-add-n : tie.Need-add-n Inv-loop μ-loop
-add-n c = search needs
-
-buddy-requires : tie.Need-buddy-requires Inv-loop μ-loop
-buddy-requires c κs = search needs
-
-cast-i : tie.Need-cast-i Inv-loop μ-loop
-cast-i c = search needs
-
-add-s : tie.Need-add-s Inv-loop μ-loop
-add-s c = search needs
-
-mul-s : tie.Need-mul-s Inv-loop μ-loop
-mul-s c = search needs
-
-slice-write-s : tie.Need-slice-write-s Inv-loop μ-loop
-slice-write-s c = search needs
-
-mul-a : tie.Need-mul-a Inv-loop μ-loop
-mul-a c = search needs
-
-add-a : tie.Need-add-a Inv-loop μ-loop
-add-a c = search needs
-
-add-e : tie.Need-add-e Inv-loop μ-loop
-add-e c = search needs
-
-mul-empty : tie.Need-mul-empty Inv-loop μ-loop
-mul-empty c = search needs
-
-sub-empty : tie.Need-sub-empty Inv-loop μ-loop
-sub-empty c = search needs
-
-part-empty-start : tie.Need-part-empty-start Inv-loop μ-loop
-part-empty-start c = search needs
-
 part-empty-end : tie.Need-part-empty-end Inv-loop μ-loop
 part-empty-end c = simp length-set (omega arith)
-
-empty-requires : tie.Need-empty-requires Inv-loop μ-loop
-empty-requires c κs = search needs
-
-loop-less : tie.Need-loop-less Inv-loop μ-loop
-loop-less c = search needs
 
 loop-again : tie.Need-loop-again Inv-loop μ-loop
 loop-again c =
@@ -73,17 +31,11 @@ loop-again c =
     let e : (NOTES + l .n * NOTELIST + NOTELIST) - (NOTES + l .n * NOTELIST) ≡ NOTELIST = omega arith in
     (omega arith, rw e (held-length (l .s) (l .inv .1) (l .n) (omega arith) _ (u .empty .last .0) (omega arith)), rw e (kept-hit _ _ (l .n) (l .s) (l .inv .2) _ (b .buddy .ensures .0) (u .before .before .if1 .taken) (l .inv .1) (omega arith) (u .empty .last .0) (omega arith) (u .empty .ensures)))
 
-loop-less-2 : tie.Need-loop-less-2 Inv-loop μ-loop
-loop-less-2 c = search needs
-
 loop-again-2 : tie.Need-loop-again-2 Inv-loop μ-loop
 loop-again-2 c =
     let b = c .before in
     let l = b .before .before .before .loop in
     (omega arith, l .inv .1, kept-miss _ _ (l .n) (l .s) (l .inv .2) _ (b .buddy .ensures .0) (c .if1 .left))
-
-same-length : tie.Need-same-length Inv-loop μ-loop
-same-length c = search needs
 
 returns : tie.Need-returns Inv-loop μ-loop
 returns c =
@@ -97,23 +49,23 @@ lose-notes-spec =
     Inv-loop
     μ-loop
     loop-holds
-    add-n
-    buddy-requires
-    cast-i
-    add-s
-    mul-s
-    slice-write-s
-    mul-a
-    add-a
-    add-e
-    mul-empty
-    sub-empty
-    part-empty-start
+    (λ c. search needs)
+    (λ c κs. search needs)
+    (λ c. search needs)
+    (λ c. search needs)
+    (λ c. search needs)
+    (λ c. search needs)
+    (λ c. search needs)
+    (λ c. search needs)
+    (λ c. search needs)
+    (λ c. search needs)
+    (λ c. search needs)
+    (λ c. search needs)
     part-empty-end
-    empty-requires
-    loop-less
+    (λ c κs. search needs)
+    (λ c. search needs)
     loop-again
-    loop-less-2
+    (λ c. search needs)
     loop-again-2
-    same-length
+    (λ c. search needs)
     returns)

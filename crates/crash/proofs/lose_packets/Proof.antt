@@ -5,27 +5,6 @@ use Rattle.crash.specs.Whole.{wire-is}
 use Rattle.crash.proofs.lose_packets.Statement.{statement}
 use Rattle.crash.proofs.lose_packets.Tie as tie
 
-copy-requires : tie.Need-copy-requires
-copy-requires c κs = search needs
-
-sub-after-crash : tie.Need-sub-after-crash
-sub-after-crash c = search needs
-
-part-after-crash-start : tie.Need-part-after-crash-start
-part-after-crash-start c = search needs
-
-part-after-crash-end : tie.Need-part-after-crash-end
-part-after-crash-end c = search needs
-
-slice-aggregate-after-crash : tie.Need-slice-aggregate-after-crash
-slice-aggregate-after-crash c = search needs
-
-after-crash-requires : tie.Need-after-crash-requires
-after-crash-requires c κs = search needs
-
-same-length : tie.Need-same-length
-same-length c = search needs
-
 returns : tie.Need-returns
 returns c =
     let u = c .before .before in
@@ -37,11 +16,11 @@ pub lose-packets-spec : {M : Type 1} → statement M
 lose-packets-spec =
     tie.close
     (tie.spec
-    copy-requires
-    sub-after-crash
-    part-after-crash-start
-    part-after-crash-end
-    slice-aggregate-after-crash
-    after-crash-requires
-    same-length
+    (λ c κs. search needs)
+    (λ c. search needs)
+    (λ c. search needs)
+    (λ c. search needs)
+    (λ c. search needs)
+    (λ c κs. search needs)
+    (λ c. search needs)
     returns)

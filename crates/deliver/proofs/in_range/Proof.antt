@@ -15,17 +15,11 @@ returns-2 : tie.Need-returns-2
 unfolding in-range between
 returns-2 c = rw (le-leb 1 _ (c .before .if1 .left), lt-leb _ 5 (c .if2 .taken))
 
-is-sender-requires : tie.Need-is-sender-requires
-is-sender-requires c κs = search needs
-
 returns-3 : tie.Need-returns-3
 unfolding in-range between
 returns-3 c =
     let d = c .before .before in
     rw (le-leb 1 _ (d .before .if1 .left), le-leb _ 5 (d .if2 .left), sym (c .before .is-sender .ensures) ∙ not-true _ (c .if3 .taken))
-
-is-chare-requires : tie.Need-is-chare-requires
-is-chare-requires c κs = search needs
 
 returns-4 : tie.Need-returns-4
 unfolding in-range between
@@ -56,9 +50,9 @@ in-range-spec =
     (tie.spec
     returns
     returns-2
-    is-sender-requires
+    (λ c κs. search needs)
     returns-3
-    is-chare-requires
+    (λ c κs. search needs)
     returns-4
     returns-5
     returns-6)

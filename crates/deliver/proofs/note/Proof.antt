@@ -11,21 +11,9 @@ use Rattle.deliver.specs.View.{passes, stops}
 use Rattle.deliver.proofs.note.Statement.{statement}
 use Rattle.deliver.proofs.note.Tie as tie
 
-has-requires : tie.Need-has-requires
-has-requires c κs = search needs
-
-same-length : tie.Need-same-length
-same-length c = search needs
-
 returns : tie.Need-returns
 unfolding note-of
 returns c = passes 0 refl (note-present _ _ (sym (c .before .has .ensures) ∙ c .if1 .taken))
-
-count-requires : tie.Need-count-requires
-count-requires c κs = search needs
-
-same-length-2 : tie.Need-same-length-2
-same-length-2 c = search needs
 
 returns-2 : tie.Need-returns-2
 unfolding note-of
@@ -33,12 +21,6 @@ returns-2 c =
     let n = c .before in
     let x = n .before .before in
     stops 10 (λ e. omega arith) (notes-full _ _ (sym (x .before .has .ensures) ∙ x .if1 .left) (omega (arith, n .count .ensures))) refl
-
-push-requires : tie.Need-push-requires
-push-requires c κs = search needs
-
-same-length-3 : tie.Need-same-length-3
-same-length-3 c = search needs
 
 returns-3 : tie.Need-returns-3
 unfolding note-of
@@ -55,12 +37,12 @@ pub note-spec : {M : Type 1} → statement M
 note-spec =
     tie.close
     (tie.spec
-    has-requires
-    same-length
+    (λ c κs. search needs)
+    (λ c. search needs)
     returns
-    count-requires
-    same-length-2
+    (λ c κs. search needs)
+    (λ c. search needs)
     returns-2
-    push-requires
-    same-length-3
+    (λ c κs. search needs)
+    (λ c. search needs)
     returns-3)

@@ -4,21 +4,6 @@ use borrow.Author.Needs.{needs}
 use Rattle.engine.proofs.step_on.Statement.{statement}
 use Rattle.engine.proofs.step_on.Tie as tie
 
-read-requires : tie.Need-read-requires
-read-requires c κs = search needs
-
-act-requires : tie.Need-act-requires
-act-requires c κs = search needs
-
-is-accepted-requires : tie.Need-is-accepted-requires
-is-accepted-requires c κs = search needs
-
-settle-requires : tie.Need-settle-requires
-settle-requires c κs = search needs
-
-same-length : tie.Need-same-length
-same-length c = search needs
-
 returns : tie.Need-returns
 returns c =
     let g = c .before .before in
@@ -26,9 +11,6 @@ returns c =
     let a = i .before .before .before in
     let r = a .before .before in
     stepped _ _ _ _ _ (r .read .ensures) (a .act .ensures) (sym (i .is-accepted .ensures) ∙ g .before .before .if1 .taken) _ (g .settle .ensures)
-
-same-length-2 : tie.Need-same-length-2
-same-length-2 c = search needs
 
 returns-2 : tie.Need-returns-2
 returns-2 c =
@@ -41,11 +23,11 @@ pub step-on-spec : {M : Type 1} → statement M
 step-on-spec =
     tie.close
     (tie.spec
-    read-requires
-    act-requires
-    is-accepted-requires
-    settle-requires
-    same-length
+    (λ c κs. search needs)
+    (λ c κs. search needs)
+    (λ c κs. search needs)
+    (λ c κs. search needs)
+    (λ c. search needs)
     returns
-    same-length-2
+    (λ c. search needs)
     returns-2)

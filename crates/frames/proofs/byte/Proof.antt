@@ -6,12 +6,6 @@ use Rattle.frames.specs.DecodeLaws.{decoded-end}
 use Rattle.frames.proofs.byte.Statement.{statement}
 use Rattle.frames.proofs.byte.Tie as tie
 
-pair-requires : tie.Need-pair-requires
-pair-requires c κs = search needs
-
-narrow-requires : tie.Need-narrow-requires
-narrow-requires c κs = search needs
-
 returns : tie.Need-returns
 returns c = c .narrow .ensures ∙ sym (byte-of _ _ _ (c .before .pair .ensures))
 
@@ -19,4 +13,4 @@ returns-2 : tie.Need-returns-2
 returns-2 c = sym (decoded-end _ _ (c .if1 .left))
 
 pub byte-spec : {M : Type 1} → statement M
-byte-spec = tie.close (tie.spec pair-requires narrow-requires returns returns-2)
+byte-spec = tie.close (tie.spec (λ c κs. search needs) (λ c κs. search needs) returns returns-2)

@@ -5,21 +5,6 @@ use Rattle.frames.specs.FieldLaws.{deliver-none, deliver-fields}
 use Rattle.frames.proofs.deliver.Statement.{statement}
 use Rattle.frames.proofs.deliver.Tie as tie
 
-pair-requires : tie.Need-pair-requires
-pair-requires c κs = search needs
-
-pair-requires-2 : tie.Need-pair-requires-2
-pair-requires-2 c κs = search needs
-
-pair-requires-3 : tie.Need-pair-requires-3
-pair-requires-3 c κs = search needs
-
-pair-requires-4 : tie.Need-pair-requires-4
-pair-requires-4 c κs = search needs
-
-pair-requires-5 : tie.Need-pair-requires-5
-pair-requires-5 c κs = search needs
-
 add-if1 : tie.Need-add-if1
 add-if1 c =
     let h1 = pair-small _ _ _ (c .before .before .before .before .pair .ensures) in
@@ -57,24 +42,6 @@ returns c =
     (p .before .before .before .before .pair .ensures) (p .before .before .before .pair2 .ensures) (p .before .before .pair3 .ensures) (p .before .pair4 .ensures) (p .pair5 .ensures)
     (c .if1 .taken)
 
-narrow-requires : tie.Need-narrow-requires
-narrow-requires c κs = search needs
-
-narrow-requires-2 : tie.Need-narrow-requires-2
-narrow-requires-2 c κs = search needs
-
-narrow-requires-3 : tie.Need-narrow-requires-3
-narrow-requires-3 c κs = search needs
-
-narrow-requires-4 : tie.Need-narrow-requires-4
-narrow-requires-4 c κs = search needs
-
-narrow-requires-5 : tie.Need-narrow-requires-5
-narrow-requires-5 c κs = search needs
-
-two-bytes-requires : tie.Need-two-bytes-requires
-two-bytes-requires c κs = search needs
-
 returns-2 : tie.Need-returns-2
 returns-2 c =
     let n = c .before in
@@ -89,20 +56,20 @@ pub deliver-spec : {M : Type 1} → statement M
 deliver-spec =
     tie.close
     (tie.spec
-    pair-requires
-    pair-requires-2
-    pair-requires-3
-    pair-requires-4
-    pair-requires-5
+    (λ c κs. search needs)
+    (λ c κs. search needs)
+    (λ c κs. search needs)
+    (λ c κs. search needs)
+    (λ c κs. search needs)
     add-if1
     add-if1-2
     add-if1-3
     add-if1-4
     returns
-    narrow-requires
-    narrow-requires-2
-    narrow-requires-3
-    narrow-requires-4
-    narrow-requires-5
-    two-bytes-requires
+    (λ c κs. search needs)
+    (λ c κs. search needs)
+    (λ c κs. search needs)
+    (λ c κs. search needs)
+    (λ c κs. search needs)
+    (λ c κs. search needs)
     returns-2)

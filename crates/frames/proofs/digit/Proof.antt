@@ -9,31 +9,13 @@ use Rattle.frames.specs.DigitLaws.{between-low, between-high, digit-deci
 use Rattle.frames.proofs.digit.Statement.{statement}
 use Rattle.frames.proofs.digit.Tie as tie
 
-sub-wide : tie.Need-sub-wide
-sub-wide c = search needs
-
-wide-requires : tie.Need-wide-requires
-wide-requires c κs = search needs
-
 returns : tie.Need-returns
 unfolding digit-code or-no-digit
 returns c = c .wide .ensures ∙ rw (digit-decimal _ (c .before .before .if1 .taken) (ltb-true _ _ (c .before .if2 .taken)))
 
-sub-wide-2 : tie.Need-sub-wide-2
-sub-wide-2 c = search needs
-
-wide-requires-2 : tie.Need-wide-requires-2
-wide-requires-2 c κs = search needs
-
 returns-2 : tie.Need-returns-2
 unfolding digit-code or-no-digit
 returns-2 c = c .wide2 .ensures ∙ rw (digit-upper _ (c .before .before .if3 .taken) (ltb-true _ _ (c .before .if4 .taken)))
-
-sub-wide-3 : tie.Need-sub-wide-3
-sub-wide-3 c = search needs
-
-wide-requires-3 : tie.Need-wide-requires-3
-wide-requires-3 c κs = search needs
 
 returns-3 : tie.Need-returns-3
 unfolding digit-code or-no-digit
@@ -53,13 +35,13 @@ pub digit-spec : {M : Type 1} → statement M
 digit-spec =
     tie.close
     (tie.spec
-    sub-wide
-    wide-requires
+    (λ c. search needs)
+    (λ c κs. search needs)
     returns
-    sub-wide-2
-    wide-requires-2
+    (λ c. search needs)
+    (λ c κs. search needs)
     returns-2
-    sub-wide-3
-    wide-requires-3
+    (λ c. search needs)
+    (λ c κs. search needs)
     returns-3
     returns-4)

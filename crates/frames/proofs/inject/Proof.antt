@@ -5,18 +5,6 @@ use Rattle.frames.specs.FieldLaws.{inject-none, inject-fields}
 use Rattle.frames.proofs.inject.Statement.{statement}
 use Rattle.frames.proofs.inject.Tie as tie
 
-pair-requires : tie.Need-pair-requires
-pair-requires c κs = search needs
-
-pair-requires-2 : tie.Need-pair-requires-2
-pair-requires-2 c κs = search needs
-
-pair-requires-3 : tie.Need-pair-requires-3
-pair-requires-3 c κs = search needs
-
-pair-requires-4 : tie.Need-pair-requires-4
-pair-requires-4 c κs = search needs
-
 add-if1 : tie.Need-add-if1
 add-if1 c =
     let a = pair-small _ _ _ (c .before .before .before .pair .ensures) in
@@ -45,21 +33,6 @@ returns c =
     (p .before .before .before .pair .ensures) (p .before .before .pair2 .ensures) (p .before .pair3 .ensures) (p .pair4 .ensures)
     (c .if1 .taken)
 
-narrow-requires : tie.Need-narrow-requires
-narrow-requires c κs = search needs
-
-narrow-requires-2 : tie.Need-narrow-requires-2
-narrow-requires-2 c κs = search needs
-
-narrow-requires-3 : tie.Need-narrow-requires-3
-narrow-requires-3 c κs = search needs
-
-two-bytes-requires : tie.Need-two-bytes-requires
-two-bytes-requires c κs = search needs
-
-narrow-requires-4 : tie.Need-narrow-requires-4
-narrow-requires-4 c κs = search needs
-
 returns-2 : tie.Need-returns-2
 returns-2 c =
     let n = c .before .before in
@@ -74,17 +47,17 @@ pub inject-spec : {M : Type 1} → statement M
 inject-spec =
     tie.close
     (tie.spec
-    pair-requires
-    pair-requires-2
-    pair-requires-3
-    pair-requires-4
+    (λ c κs. search needs)
+    (λ c κs. search needs)
+    (λ c κs. search needs)
+    (λ c κs. search needs)
     add-if1
     add-if1-2
     add-if1-3
     returns
-    narrow-requires
-    narrow-requires-2
-    narrow-requires-3
-    two-bytes-requires
-    narrow-requires-4
+    (λ c κs. search needs)
+    (λ c κs. search needs)
+    (λ c κs. search needs)
+    (λ c κs. search needs)
+    (λ c κs. search needs)
     returns-2)

@@ -7,27 +7,6 @@ use Rattle.frames.specs.DecodeLaws.{getD-pairs}
 use Rattle.frames.proofs.pair.Statement.{statement}
 use Rattle.frames.proofs.pair.Tie as tie
 
-mul-digit : tie.Need-mul-digit
-mul-digit c = search needs
-
-shared-slice-read-digit : tie.Need-shared-slice-read-digit
-shared-slice-read-digit c = search needs
-
-digit-requires : tie.Need-digit-requires
-digit-requires c κs = search needs
-
-mul-digit-2 : tie.Need-mul-digit-2
-mul-digit-2 c = search needs
-
-add-digit : tie.Need-add-digit
-add-digit c = search needs
-
-shared-slice-read-digit-2 : tie.Need-shared-slice-read-digit-2
-shared-slice-read-digit-2 c = search needs
-
-digit-requires-2 : tie.Need-digit-requires-2
-digit-requires-2 c κs = search needs
-
 mul-result : tie.Need-mul-result
 mul-result c = let h = code-small _ _ (c .before .before .digit .ensures) in search needs
 
@@ -45,13 +24,13 @@ pub pair-spec : {M : Type 1} → statement M
 pair-spec =
     tie.close
     (tie.spec
-    mul-digit
-    shared-slice-read-digit
-    digit-requires
-    mul-digit-2
-    add-digit
-    shared-slice-read-digit-2
-    digit-requires-2
+    (λ c. search needs)
+    (λ c. search needs)
+    (λ c κs. search needs)
+    (λ c. search needs)
+    (λ c. search needs)
+    (λ c. search needs)
+    (λ c κs. search needs)
     mul-result
     add-result
     returns)

@@ -10,17 +10,8 @@ use Rattle.frames.proofs.read.Tie as tie
 returns : tie.Need-returns
 returns c = frame-short _ (c .if1 .taken)
 
-pair-requires : tie.Need-pair-requires
-pair-requires c κs = search needs
-
 returns-2 : tie.Need-returns-2
 returns-2 c = frame-unknown _ _ (c .before .before .if1 .left) (c .before .pair .ensures) (c .if2 .taken)
-
-array-read-least : tie.Need-array-read-least
-array-read-least c = search needs
-
-job-requires : tie.Need-job-requires
-job-requires c κs = search needs
 
 returns-3 : tie.Need-returns-3
 unfolding least-length least
@@ -28,9 +19,6 @@ returns-3 c =
     let k = c .before .before in
     let p = k .before in
     c .job .ensures ∙ frame-job _ _ (p .before .if1 .left) (p .pair .ensures) (k .if2 .left) _ refl (c .before .if3 .taken)
-
-wide-requires : tie.Need-wide-requires
-wide-requires c κs = search needs
 
 mul-if4 : tie.Need-mul-if4
 unfolding least-length least
@@ -63,12 +51,12 @@ read-spec =
     tie.close
     (tie.spec
     returns
-    pair-requires
+    (λ c κs. search needs)
     returns-2
-    array-read-least
-    job-requires
+    (λ c. search needs)
+    (λ c κs. search needs)
     returns-3
-    wide-requires
+    (λ c κs. search needs)
     mul-if4
     returns-4
     fields-requires

@@ -9,26 +9,8 @@ use Rattle.frames.specs.Read.{read-as}
 use Rattle.frames.proofs.single.Statement.{statement}
 use Rattle.frames.proofs.single.Tie as tie
 
-pair-requires : tie.Need-pair-requires
-pair-requires c κs = search needs
-
 returns : tie.Need-returns
 returns c = single-none _ _ _ (c .before .before .before .pre .0) (c .before .pair .ensures) (c .if1 .taken)
-
-narrow-requires : tie.Need-narrow-requires
-narrow-requires c κs = search needs
-
-narrow-requires-2 : tie.Need-narrow-requires-2
-narrow-requires-2 c κs = search needs
-
-narrow-requires-3 : tie.Need-narrow-requires-3
-narrow-requires-3 c κs = search needs
-
-narrow-requires-4 : tie.Need-narrow-requires-4
-narrow-requires-4 c κs = search needs
-
-narrow-requires-5 : tie.Need-narrow-requires-5
-narrow-requires-5 c κs = search needs
 
 returns-2 : tie.Need-returns-2
 unfolding parts read-as
@@ -89,13 +71,13 @@ pub single-spec : {M : Type 1} → statement M
 single-spec =
     tie.close
     (tie.spec
-    pair-requires
+    (λ c κs. search needs)
     returns
-    narrow-requires
-    narrow-requires-2
-    narrow-requires-3
-    narrow-requires-4
-    narrow-requires-5
+    (λ c κs. search needs)
+    (λ c κs. search needs)
+    (λ c κs. search needs)
+    (λ c κs. search needs)
+    (λ c κs. search needs)
     returns-2
     returns-3
     returns-4

@@ -7,14 +7,8 @@ use Rattle.head.proofs.cell.Tie as tie
 returns : tie.Need-returns
 returns c = (cell-zero _ _ _ (c .if1 .taken), search needs)
 
-word-requires : tie.Need-word-requires
-word-requires c κs = search needs
-
-at-most-requires : tie.Need-at-most-requires
-at-most-requires c κs = search needs
-
 returns-2 : tie.Need-returns-2
 returns-2 c = cell-read _ _ _ (c .before .before .if1 .left) _ _ (c .before .word .ensures) (c .at-most .ensures)
 
 pub cell-spec : {M : Type 1} → statement M
-cell-spec = tie.close (tie.spec returns word-requires at-most-requires returns-2)
+cell-spec = tie.close (tie.spec returns (λ c κs. search needs) (λ c κs. search needs) returns-2)

@@ -4,17 +4,8 @@ use Rattle.head.specs.HeadLaws.{chares-word}
 use Rattle.head.proofs.chares.Statement.{statement}
 use Rattle.head.proofs.chares.Tie as tie
 
-shared-slice-read-at-most : tie.Need-shared-slice-read-at-most
-shared-slice-read-at-most c = search needs
-
-at-most-requires : tie.Need-at-most-requires
-at-most-requires c κs = search needs
-
-cast-result : tie.Need-cast-result
-cast-result c = search needs
-
 returns : tie.Need-returns
 returns c = chares-word _ _ (c .at-most .ensures)
 
 pub chares-spec : {M : Type 1} → statement M
-chares-spec = tie.close (tie.spec shared-slice-read-at-most at-most-requires cast-result returns)
+chares-spec = tie.close (tie.spec (λ c. search needs) (λ c κs. search needs) (λ c. search needs) returns)

@@ -6,18 +6,9 @@ use Rattle.protocol.specs.Packets.{destination}
 use Rattle.head.proofs.destination.Statement.{statement}
 use Rattle.head.proofs.destination.Tie as tie
 
-home-requires : tie.Need-home-requires
-home-requires c κs = search needs
-
 returns : tie.Need-returns
 unfolding destination
 returns c = rw (eq-eqb _ _ (c .before .if1 .taken), c .home .ensures .0)
-
-home-requires-2 : tie.Need-home-requires-2
-home-requires-2 c κs = search needs
-
-buddy-requires : tie.Need-buddy-requires
-buddy-requires c κs = search needs
 
 returns-2 : tie.Need-returns-2
 unfolding destination
@@ -29,4 +20,4 @@ returns-3 c = c .before .home2 .ensures .0 ∙ rw (ne-eqb _ 2 (c .before .before
 
 pub destination-spec : {M : Type 1} → statement M
 destination-spec =
-    tie.close (tie.spec home-requires returns home-requires-2 buddy-requires returns-2 returns-3)
+    tie.close (tie.spec (λ c κs. search needs) returns (λ c κs. search needs) (λ c κs. search needs) returns-2 returns-3)

@@ -4,15 +4,9 @@ use Rattle.head.specs.Head.{job-of}
 use Rattle.head.proofs.first.Statement.{statement}
 use Rattle.head.proofs.first.Tie as tie
 
-cell-requires : tie.Need-cell-requires
-cell-requires c κs = search needs
-
-cast-result : tie.Need-cast-result
-cast-result c = search needs
-
 returns : tie.Need-returns
 unfolding job-of
 returns c = c .cell .ensures
 
 pub first-spec : {M : Type 1} → statement M
-first-spec = tie.close (tie.spec cell-requires cast-result returns)
+first-spec = tie.close (tie.spec (λ c κs. search needs) (λ c. search needs) returns)

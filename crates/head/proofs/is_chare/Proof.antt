@@ -9,12 +9,9 @@ returns : tie.Need-returns
 unfolding between
 returns c = rw (lt-leb 1 _ (c .if1 .taken))
 
-chares-requires : tie.Need-chares-requires
-chares-requires c κs = search needs
-
 returns-2 : tie.Need-returns-2
 unfolding between
 returns-2 c = rw (le-leb 1 _ (c .before .if1 .left), c .chares .ensures .0)
 
 pub is-chare-spec : {M : Type 1} → statement M
-is-chare-spec = tie.close (tie.spec returns chares-requires returns-2)
+is-chare-spec = tie.close (tie.spec returns (λ c κs. search needs) returns-2)

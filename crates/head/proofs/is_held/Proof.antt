@@ -4,12 +4,9 @@ use Rattle.head.specs.Head.{held-of}
 use Rattle.head.proofs.is_held.Statement.{statement}
 use Rattle.head.proofs.is_held.Tie as tie
 
-word-requires : tie.Need-word-requires
-word-requires c κs = search needs
-
 returns : tie.Need-returns
 unfolding held-of
 returns c = rw (c .word .ensures)
 
 pub is-held-spec : {M : Type 1} → statement M
-is-held-spec = tie.close (tie.spec word-requires returns)
+is-held-spec = tie.close (tie.spec (λ c κs. search needs) returns)

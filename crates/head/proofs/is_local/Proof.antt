@@ -9,15 +9,9 @@ returns : tie.Need-returns
 unfolding is-local
 returns c = rw (eq-eqb _ _ (c .if1 .taken))
 
-home-requires : tie.Need-home-requires
-home-requires c κs = search needs
-
-home-requires-2 : tie.Need-home-requires-2
-home-requires-2 c κs = search needs
-
 returns-2 : tie.Need-returns-2
 unfolding is-local
 returns-2 c = rw (ne-eqb _ _ (c .before .before .if1 .left), c .before .home .ensures .0, c .home2 .ensures .0)
 
 pub is-local-spec : {M : Type 1} → statement M
-is-local-spec = tie.close (tie.spec returns home-requires home-requires-2 returns-2)
+is-local-spec = tie.close (tie.spec returns (λ c κs. search needs) (λ c κs. search needs) returns-2)

@@ -4,11 +4,8 @@ use Rattle.head.specs.HeadLaws.{lost-word}
 use Rattle.head.proofs.is_lost.Statement.{statement}
 use Rattle.head.proofs.is_lost.Tie as tie
 
-shared-slice-read-result : tie.Need-shared-slice-read-result
-shared-slice-read-result c = search needs
-
 returns : tie.Need-returns
 returns c = lost-word _
 
 pub is-lost-spec : {M : Type 1} → statement M
-is-lost-spec = tie.close (tie.spec shared-slice-read-result returns)
+is-lost-spec = tie.close (tie.spec (λ c. search needs) returns)

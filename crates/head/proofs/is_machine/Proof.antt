@@ -9,12 +9,9 @@ returns : tie.Need-returns
 unfolding between
 returns c = rw (lt-leb 1 _ (c .if1 .taken))
 
-machines-requires : tie.Need-machines-requires
-machines-requires c κs = search needs
-
 returns-2 : tie.Need-returns-2
 unfolding between
 returns-2 c = rw (le-leb 1 _ (c .before .if1 .left), c .machines .ensures .0)
 
 pub is-machine-spec : {M : Type 1} → statement M
-is-machine-spec = tie.close (tie.spec returns machines-requires returns-2)
+is-machine-spec = tie.close (tie.spec returns (λ c κs. search needs) returns-2)

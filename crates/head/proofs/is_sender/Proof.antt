@@ -3,11 +3,8 @@ use borrow.Author.Needs.{needs}
 use Rattle.head.proofs.is_sender.Statement.{statement}
 use Rattle.head.proofs.is_sender.Tie as tie
 
-chares-requires : tie.Need-chares-requires
-chares-requires c κs = search needs
-
 returns : tie.Need-returns
 returns c = rw (c .chares .ensures .0)
 
 pub is-sender-spec : {M : Type 1} → statement M
-is-sender-spec = tie.close (tie.spec chares-requires returns)
+is-sender-spec = tie.close (tie.spec (λ c κs. search needs) returns)

@@ -4,11 +4,8 @@ use Rattle.head.specs.HeadLaws.{set-word}
 use Rattle.head.proofs.is_set.Statement.{statement}
 use Rattle.head.proofs.is_set.Tie as tie
 
-shared-slice-read-result : tie.Need-shared-slice-read-result
-shared-slice-read-result c = search needs
-
 returns : tie.Need-returns
 returns c = set-word _
 
 pub is-set-spec : {M : Type 1} → statement M
-is-set-spec = tie.close (tie.spec shared-slice-read-result returns)
+is-set-spec = tie.close (tie.spec (λ c. search needs) returns)

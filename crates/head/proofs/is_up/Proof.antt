@@ -7,11 +7,8 @@ use Rattle.head.proofs.is_up.Tie as tie
 returns : tie.Need-returns
 returns c = desk-runs _ _ (c .if1 .taken)
 
-word-requires : tie.Need-word-requires
-word-requires c κs = search needs
-
 returns-2 : tie.Need-returns-2
 returns-2 c = machine-runs _ _ (c .before .if1 .left) _ (c .word .ensures)
 
 pub is-up-spec : {M : Type 1} → statement M
-is-up-spec = tie.close (tie.spec returns word-requires returns-2)
+is-up-spec = tie.close (tie.spec returns (λ c κs. search needs) returns-2)

@@ -4,12 +4,9 @@ use Rattle.protocol.specs.Parts.{on}
 use Rattle.head.proofs.on.Statement.{statement}
 use Rattle.head.proofs.on.Tie as tie
 
-home-requires : tie.Need-home-requires
-home-requires c κs = search needs
-
 returns : tie.Need-returns
 unfolding on
 returns c = rw (c .home .ensures .0)
 
 pub on-spec : {M : Type 1} → statement M
-on-spec = tie.close (tie.spec home-requires returns)
+on-spec = tie.close (tie.spec (λ c κs. search needs) returns)

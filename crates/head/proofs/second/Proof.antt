@@ -4,15 +4,9 @@ use Rattle.head.specs.Head.{job-of}
 use Rattle.head.proofs.second.Statement.{statement}
 use Rattle.head.proofs.second.Tie as tie
 
-cell-requires : tie.Need-cell-requires
-cell-requires c κs = search needs
-
-cast-result : tie.Need-cast-result
-cast-result c = search needs
-
 returns : tie.Need-returns
 unfolding job-of
 returns c = c .cell .ensures
 
 pub second-spec : {M : Type 1} → statement M
-second-spec = tie.close (tie.spec cell-requires cast-result returns)
+second-spec = tie.close (tie.spec (λ c κs. search needs) (λ c. search needs) returns)

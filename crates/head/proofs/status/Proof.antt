@@ -6,9 +6,6 @@ use Rattle.head.specs.Head.{as-status, status-of}
 use Rattle.head.proofs.status.Statement.{statement}
 use Rattle.head.proofs.status.Tie as tie
 
-word-requires : tie.Need-word-requires
-word-requires c κs = search needs
-
 returns : tie.Need-returns
 unfolding status-of as-status
 returns c = rw (sym (c .before .word .ensures) ∙ c .match .keys1)
@@ -22,4 +19,4 @@ unfolding status-of as-status
 returns-3 c = rw (← c .before .word .ensures, ne-eqb _ _ (c .match .rest .0 .1), ne-eqb _ _ (c .match .rest .1))
 
 pub status-spec : {M : Type 1} → statement M
-status-spec = tie.close (tie.spec word-requires returns returns-2 returns-3)
+status-spec = tie.close (tie.spec (λ c κs. search needs) returns returns-2 returns-3)

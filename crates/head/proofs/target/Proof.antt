@@ -4,12 +4,9 @@ use Rattle.head.specs.Head.{target-of}
 use Rattle.head.proofs.target.Statement.{statement}
 use Rattle.head.proofs.target.Tie as tie
 
-word-requires : tie.Need-word-requires
-word-requires c κs = search needs
-
 returns : tie.Need-returns
 unfolding target-of
 returns c = c .word .ensures
 
 pub target-spec : {M : Type 1} → statement M
-target-spec = tie.close (tie.spec word-requires returns)
+target-spec = tie.close (tie.spec (λ c κs. search needs) returns)

@@ -7,19 +7,10 @@ use Rattle.head.proofs.word.Tie as tie
 returns : tie.Need-returns
 returns c = word-end _ _ _ _ (c .before .pre) (c .if1 .taken)
 
-add-result : tie.Need-add-result
-add-result c = search needs
-
-mul-result : tie.Need-mul-result
-mul-result c = search needs
-
-shared-slice-read-result : tie.Need-shared-slice-read-result
-shared-slice-read-result c = search needs
-
 returns-2 : tie.Need-returns-2
 returns-2 c =
     let a = c .before .before .args in
     word-in (a .h .now) (a .a) (a .n) (a .k) (c .before .if1 .left)
 
 pub word-spec : {M : Type 1} → statement M
-word-spec = tie.close (tie.spec returns add-result mul-result shared-slice-read-result returns-2)
+word-spec = tie.close (tie.spec returns (λ c. search needs) (λ c. search needs) (λ c. search needs) returns-2)

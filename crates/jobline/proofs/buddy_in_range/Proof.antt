@@ -4,12 +4,6 @@ use Rattle.jobline.specs.JobCode.{buddy-high, buddy-itself}
 use Rattle.jobline.proofs.buddy_in_range.Statement.{statement}
 use Rattle.jobline.proofs.buddy_in_range.Tie as tie
 
-buddy-byte-requires : tie.Need-buddy-byte-requires
-buddy-byte-requires c κs = search needs
-
-byte-requires : tie.Need-byte-requires
-byte-requires c κs = search needs
-
 returns : tie.Need-returns
 returns c = buddy-high _ _ (c .before .byte .ensures) _ _ (c .before .before .buddy-byte .ensures) (c .if1 .taken)
 
@@ -17,4 +11,4 @@ returns-2 : tie.Need-returns-2
 returns-2 c = buddy-itself _ _ (c .before .byte .ensures) _ _ (c .before .before .buddy-byte .ensures) (c .if1 .left)
 
 pub buddy-in-range-spec : {M : Type 1} → statement M
-buddy-in-range-spec = tie.close (tie.spec buddy-byte-requires byte-requires returns returns-2)
+buddy-in-range-spec = tie.close (tie.spec (λ c κs. search needs) (λ c κs. search needs) returns returns-2)

@@ -5,17 +5,11 @@ use Rattle.jobline.specs.JobCode.{no-buddy-low, no-buddy-high, named-bud
 use Rattle.jobline.proofs.buddy_of.Statement.{statement}
 use Rattle.jobline.proofs.buddy_of.Tie as tie
 
-byte-requires : tie.Need-byte-requires
-byte-requires c κs = search needs
-
 returns : tie.Need-returns
 returns c = no-buddy-low _ _ (c .before .byte .ensures) _ (c .if1 .taken)
 
 returns-2 : tie.Need-returns-2
 returns-2 c = no-buddy-high _ _ (c .before .before .byte .ensures) _ (c .if2 .taken)
-
-buddy-byte-requires : tie.Need-buddy-byte-requires
-buddy-byte-requires c κs = search needs
 
 returns-3 : tie.Need-returns-3
 returns-3 c =
@@ -38,10 +32,10 @@ pub buddy-of-spec : {M : Type 1} → statement M
 buddy-of-spec =
     tie.close
     (tie.spec
-    byte-requires
+    (λ c κs. search needs)
     returns
     returns-2
-    buddy-byte-requires
+    (λ c κs. search needs)
     returns-3
     returns-4
     returns-5)

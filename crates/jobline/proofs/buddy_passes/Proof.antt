@@ -5,17 +5,11 @@ use Rattle.jobline.specs.JobCode.{passes-buddy, asks-buddy}
 use Rattle.jobline.proofs.buddy_passes.Statement.{statement}
 use Rattle.jobline.proofs.buddy_passes.Tie as tie
 
-byte-requires : tie.Need-byte-requires
-byte-requires c κs = search needs
-
 returns : tie.Need-returns
 returns c = passes-buddy _ _ (c .before .byte .ensures) _ (c .if1 .taken)
-
-buddy-in-range-requires : tie.Need-buddy-in-range-requires
-buddy-in-range-requires c κs = search needs
 
 returns-2 : tie.Need-returns-2
 returns-2 c = c .buddy-in-range .ensures ∙ asks-buddy _ _ (c .before .before .byte .ensures) _ (c .before .if1 .left)
 
 pub buddy-passes-spec : {M : Type 1} → statement M
-buddy-passes-spec = tie.close (tie.spec byte-requires returns buddy-in-range-requires returns-2)
+buddy-passes-spec = tie.close (tie.spec (λ c κs. search needs) returns (λ c κs. search needs) returns-2)

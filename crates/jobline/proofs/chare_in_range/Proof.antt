@@ -4,32 +4,17 @@ use Rattle.jobline.specs.JobCode.{home-low, home-high, port-high, ports-
 use Rattle.jobline.proofs.chare_in_range.Statement.{statement}
 use Rattle.jobline.proofs.chare_in_range.Tie as tie
 
-chare-byte-requires : tie.Need-chare-byte-requires
-chare-byte-requires c κs = search needs
-
 returns : tie.Need-returns
 returns c = home-low _ _ _ (c .before .chare-byte .ensures) (c .if1 .taken)
 
-byte-requires : tie.Need-byte-requires
-byte-requires c κs = search needs
-
 returns-2 : tie.Need-returns-2
 returns-2 c = home-high _ _ _ (c .before .before .before .chare-byte .ensures) _ (c .before .byte .ensures) (c .if2 .taken)
-
-byte-requires-2 : tie.Need-byte-requires-2
-byte-requires-2 c κs = search needs
-
-chare-byte-requires-2 : tie.Need-chare-byte-requires-2
-chare-byte-requires-2 c κs = search needs
 
 returns-3 : tie.Need-returns-3
 returns-3 c =
     let m = c .before .before .before in
     let h = m .before .before in
     port-high _ _ _ (h .before .chare-byte .ensures) _ (m .before .byte .ensures) (h .if1 .left) (m .if2 .left) _ (c .before .before .byte2 .ensures) _ (c .before .chare-byte2 .ensures) (c .if3 .taken)
-
-chare-byte-requires-3 : tie.Need-chare-byte-requires-3
-chare-byte-requires-3 c κs = search needs
 
 returns-4 : tie.Need-returns-4
 returns-4 c =
@@ -42,12 +27,12 @@ pub chare-in-range-spec : {M : Type 1} → statement M
 chare-in-range-spec =
     tie.close
     (tie.spec
-    chare-byte-requires
+    (λ c κs. search needs)
     returns
-    byte-requires
+    (λ c κs. search needs)
     returns-2
-    byte-requires-2
-    chare-byte-requires-2
+    (λ c κs. search needs)
+    (λ c κs. search needs)
     returns-3
-    chare-byte-requires-3
+    (λ c κs. search needs)
     returns-4)

@@ -6,17 +6,11 @@ use Rattle.jobline.specs.JobCode.{machines-low, machines-high, chares-lo
 use Rattle.jobline.proofs.job_in_range.Statement.{statement}
 use Rattle.jobline.proofs.job_in_range.Tie as tie
 
-byte-requires : tie.Need-byte-requires
-byte-requires c κs = search needs
-
 returns : tie.Need-returns
 returns c = machines-low _ _ (c .before .byte .ensures) (c .if1 .taken)
 
 returns-2 : tie.Need-returns-2
 returns-2 c = machines-high _ _ (c .before .before .byte .ensures) (c .if2 .taken)
-
-byte-requires-2 : tie.Need-byte-requires-2
-byte-requires-2 c κs = search needs
 
 returns-3 : tie.Need-returns-3
 returns-3 c =
@@ -28,18 +22,12 @@ returns-4 c =
     let e = c .before .before .before in
     chares-high _ _ (e .before .before .byte .ensures) (e .before .if1 .left) (e .if2 .left) _ (c .before .before .byte2 .ensures) (c .if4 .taken)
 
-buddies-in-range-requires : tie.Need-buddies-in-range-requires
-buddies-in-range-requires c κs = search needs
-
 returns-5 : tie.Need-returns-5
 returns-5 c =
     let d = c .before .before in
     let e = d .before .before .before in
     buddies-out _ _ (e .before .before .byte .ensures) (e .before .if1 .left) (e .if2 .left) _ (d .before .before .byte2 .ensures) (d .before .if3 .left) (d .if4 .left)
     (sym (c .before .buddies-in-range .ensures) ∙ not-true _ (c .if5 .taken))
-
-chares-in-range-requires : tie.Need-chares-in-range-requires
-chares-in-range-requires c κs = search needs
 
 returns-6 : tie.Need-returns-6
 returns-6 c =
@@ -54,13 +42,13 @@ pub job-in-range-spec : {M : Type 1} → statement M
 job-in-range-spec =
     tie.close
     (tie.spec
-    byte-requires
+    (λ c κs. search needs)
     returns
     returns-2
-    byte-requires-2
+    (λ c κs. search needs)
     returns-3
     returns-4
-    buddies-in-range-requires
+    (λ c κs. search needs)
     returns-5
-    chares-in-range-requires
+    (λ c κs. search needs)
     returns-6)

@@ -8,26 +8,8 @@ use Rattle.memory.proofs.give.Tie as tie
 use Rattle.memory.proofs.give.Reads as reads
 use Rattle.memory.proofs.give.Lts as lts
 
-slice-write-m : tie.Need-slice-write-m
-slice-write-m c = search needs
-
-slice-write-m-2 : tie.Need-slice-write-m-2
-slice-write-m-2 c = search needs
-
-add-m : tie.Need-add-m
-add-m c = search needs
-
-mul-m : tie.Need-mul-m
-mul-m c = search needs
-
 slice-write-m-3 : tie.Need-slice-write-m-3
 slice-write-m-3 c = simp length-set (omega arith)
-
-add-m-2 : tie.Need-add-m-2
-add-m-2 c = search needs
-
-mul-m-2 : tie.Need-mul-m-2
-mul-m-2 c = search needs
 
 slice-write-m-4 : tie.Need-slice-write-m-4
 slice-write-m-4 c = simp length-set (omega arith)
@@ -42,13 +24,13 @@ pub give-spec : {M : Type 1} → statement M
 give-spec =
     tie.close
     (tie.spec
-    slice-write-m
-    slice-write-m-2
-    add-m
-    mul-m
+    (λ c. search needs)
+    (λ c. search needs)
+    (λ c. search needs)
+    (λ c. search needs)
     slice-write-m-3
-    add-m-2
-    mul-m-2
+    (λ c. search needs)
+    (λ c. search needs)
     slice-write-m-4
     same-length
     returns)

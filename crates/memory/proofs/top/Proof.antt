@@ -5,14 +5,8 @@ use Rattle.memory.proofs.top.Tie as tie
 use Rattle.memory.proofs.top.Reads as reads
 use Rattle.memory.proofs.top.Lts as lts
 
-shared-slice-read-result : tie.Need-shared-slice-read-result
-shared-slice-read-result c = search needs
-
-cast-result : tie.Need-cast-result
-cast-result c = search needs
-
 returns : tie.Need-returns
 returns c = top-at _
 
 pub top-spec : {M : Type 1} → statement M
-top-spec = tie.close (tie.spec shared-slice-read-result cast-result returns)
+top-spec = tie.close (tie.spec (λ c. search needs) (λ c. search needs) returns)

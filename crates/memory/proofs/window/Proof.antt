@@ -8,17 +8,8 @@ use Rattle.memory.proofs.window.Lts as lts
 returns : tie.Need-returns
 returns c = no-window _ _ (search needs) (search needs)
 
-add-result : tie.Need-add-result
-add-result c = search needs
-
-mul-result : tie.Need-mul-result
-mul-result c = search needs
-
-shared-slice-read-result : tie.Need-shared-slice-read-result
-shared-slice-read-result c = search needs
-
 returns-2 : tie.Need-returns-2
 returns-2 c = window-at _ _ (search needs)
 
 pub window-spec : {M : Type 1} → statement M
-window-spec = tie.close (tie.spec returns add-result mul-result shared-slice-read-result returns-2)
+window-spec = tie.close (tie.spec returns (λ c. search needs) (λ c. search needs) (λ c. search needs) returns-2)

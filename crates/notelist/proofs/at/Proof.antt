@@ -5,14 +5,8 @@ use Rattle.notelist.specs.Notes.{note-of}
 use Rattle.notelist.proofs.at.Statement.{statement}
 use Rattle.notelist.proofs.at.Tie as tie
 
-read-requires : tie.Need-read-requires
-read-requires c κs = search needs
-
-unpack-requires : tie.Need-unpack-requires
-unpack-requires c κs = search needs
-
 returns : tie.Need-returns
 returns c = c .unpack .ensures ∙ ap note-of (c .before .read .ensures) ∙ sym (note-at _ _)
 
 pub at-spec : {M : Type 1} → statement M
-at-spec = tie.close (tie.spec read-requires unpack-requires returns)
+at-spec = tie.close (tie.spec (λ c κs. search needs) (λ c κs. search needs) returns)

@@ -7,14 +7,8 @@ use Rattle.notelist.proofs.empty.Tie as tie
 returns : tie.Need-returns
 returns c = no-words _ (omega arith)
 
-slice-write-ws : tie.Need-slice-write-ws
-slice-write-ws c = search needs
-
-same-length : tie.Need-same-length
-same-length c = search needs
-
 returns-2 : tie.Need-returns-2
 returns-2 c = emptied (c .before .args .ws .now) (omega arith)
 
 pub empty-spec : {M : Type 1} → statement M
-empty-spec = tie.close (tie.spec returns slice-write-ws same-length returns-2)
+empty-spec = tie.close (tie.spec returns (λ c. search needs) (λ c. search needs) returns-2)

@@ -22,47 +22,8 @@ returns c = far-receiver _ _ (omega (arith, c .if1 .taken))
 returns-2 : tie.Need-returns-2 Inv-loop μ-loop
 returns-2 c = far-sender _ _ (omega (arith, c .if2 .taken))
 
-cast-name : tie.Need-cast-name Inv-loop μ-loop
-cast-name c = search needs
-
-cast-name-2 : tie.Need-cast-name-2 Inv-loop μ-loop
-cast-name-2 c = search needs
-
-mul-name : tie.Need-mul-name Inv-loop μ-loop
-mul-name c = search needs
-
-add-name : tie.Need-add-name Inv-loop μ-loop
-add-name c = search needs
-
-cast-name-3 : tie.Need-cast-name-3 Inv-loop μ-loop
-cast-name-3 c = search needs
-
-mul-name-2 : tie.Need-mul-name-2 Inv-loop μ-loop
-mul-name-2 c = search needs
-
-add-name-2 : tie.Need-add-name-2 Inv-loop μ-loop
-add-name-2 c = search needs
-
-count-requires : tie.Need-count-requires Inv-loop μ-loop
-count-requires c κs = search needs
-
 loop-holds : tie.Need-loop-holds Inv-loop μ-loop
 loop-holds c = (search needs, refl)
-
-add-w : tie.Need-add-w Inv-loop μ-loop
-add-w c = search needs
-
-mul-w : tie.Need-mul-w Inv-loop μ-loop
-mul-w c = search needs
-
-shared-slice-read-w : tie.Need-shared-slice-read-w Inv-loop μ-loop
-shared-slice-read-w c = search needs
-
-add-i : tie.Need-add-i Inv-loop μ-loop
-add-i c = search needs
-
-tn-requires : tie.Need-tn-requires Inv-loop μ-loop
-tn-requires c κs = search needs
 
 returns-3 : tie.Need-returns-3 Inv-loop μ-loop
 returns-3 c =
@@ -74,17 +35,11 @@ returns-3 c =
     let l = p .loop in
     noted-there _ _ (l .i) (l .inv .1) (omega arith) (same-word _ _ (search needs) (omega (arith, r .if1 .left)) (omega (arith, s .if2 .left)) (w .if3 .taken) (sym (t .tn .ensures) ∙ c .if4 .taken))
 
-loop-less : tie.Need-loop-less Inv-loop μ-loop
-loop-less c = search needs
-
 loop-again : tie.Need-loop-again Inv-loop μ-loop
 loop-again c =
     let t = c .before .before in
     let l = t .before .before .before .before .loop in
     (search needs, noted-next _ _ (l .i) (l .inv .1) (omega arith) (other-tn _ _ (λ e. c .if4 .left (t .tn .ensures ∙ e))))
-
-loop-less-2 : tie.Need-loop-less-2 Inv-loop μ-loop
-loop-less-2 c = search needs
 
 loop-again-2 : tie.Need-loop-again-2 Inv-loop μ-loop
 loop-again-2 c =
@@ -104,23 +59,23 @@ has-spec =
     μ-loop
     returns
     returns-2
-    cast-name
-    cast-name-2
-    mul-name
-    add-name
-    cast-name-3
-    mul-name-2
-    add-name-2
-    count-requires
+    (λ c. search needs)
+    (λ c. search needs)
+    (λ c. search needs)
+    (λ c. search needs)
+    (λ c. search needs)
+    (λ c. search needs)
+    (λ c. search needs)
+    (λ c κs. search needs)
     loop-holds
-    add-w
-    mul-w
-    shared-slice-read-w
-    add-i
-    tn-requires
+    (λ c. search needs)
+    (λ c. search needs)
+    (λ c. search needs)
+    (λ c. search needs)
+    (λ c κs. search needs)
     returns-3
-    loop-less
+    (λ c. search needs)
     loop-again
-    loop-less-2
+    (λ c. search needs)
     loop-again-2
     returns-4)

@@ -3,11 +3,8 @@ use Rattle.notelist.specs.Words.{note-says}
 use Rattle.notelist.proofs.pack.Statement.{statement}
 use Rattle.notelist.proofs.pack.Tie as tie
 
-pack-requires : tie.Need-pack-requires
-pack-requires c κs = search needs
-
 returns : tie.Need-returns
 returns c = note-says _ _ (c .pack .ensures)
 
 pub pack-spec : {M : Type 1} → statement M
-pack-spec = tie.close (tie.spec pack-requires returns)
+pack-spec = tie.close (tie.spec (λ c κs. search needs) returns)

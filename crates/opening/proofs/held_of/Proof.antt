@@ -7,9 +7,6 @@ use Rattle.opening.proofs.held_of.Tie as tie
 returns : tie.Need-returns
 returns c = held-low _ _ (c .if1 .taken)
 
-byte-requires : tie.Need-byte-requires
-byte-requires c κs = search needs
-
 returns-2 : tie.Need-returns-2
 returns-2 c = held-high _ _ _ (c .before .byte .ensures) (c .if2 .taken)
 
@@ -17,4 +14,4 @@ returns-3 : tie.Need-returns-3
 returns-3 c = held-in _ _ _ (c .before .byte .ensures) (c .before .before .if1 .left) (c .if2 .left)
 
 pub held-of-spec : {M : Type 1} → statement M
-held-of-spec = tie.close (tie.spec returns byte-requires returns-2 returns-3)
+held-of-spec = tie.close (tie.spec returns (λ c κs. search needs) returns-2 returns-3)

@@ -6,31 +6,13 @@ use Rattle.opening.specs.Begun.{refuse-set, refuse-range, refuse-lost, a
 use Rattle.opening.proofs.job.Statement.{statement}
 use Rattle.opening.proofs.job.Tie as tie
 
-is-set-requires : tie.Need-is-set-requires
-is-set-requires c κs = search needs
-
-same-length : tie.Need-same-length
-same-length c = search needs
-
 returns : tie.Need-returns
 returns c = refuse-set _ _ (sym (c .before .is-set .ensures) ∙ c .if1 .taken)
-
-job-in-range-requires : tie.Need-job-in-range-requires
-job-in-range-requires c κs = search needs
-
-same-length-2 : tie.Need-same-length-2
-same-length-2 c = search needs
 
 returns-2 : tie.Need-returns-2
 returns-2 c =
     let e = c .before .before in
     refuse-range _ _ (sym (e .before .is-set .ensures) ∙ e .if1 .left) (sym (c .before .job-in-range .ensures) ∙ not-true _ (c .if2 .taken))
-
-is-lost-requires : tie.Need-is-lost-requires
-is-lost-requires c κs = search needs
-
-same-length-3 : tie.Need-same-length-3
-same-length-3 c = search needs
 
 returns-3 : tie.Need-returns-3
 returns-3 c =
@@ -43,9 +25,6 @@ begin-requires c κs =
     let f = c .before .before .before .before in
     (search needs, sym (f .before .job-in-range .ensures) ∙ not-false _ (f .if2 .left))
 
-same-length-4 : tie.Need-same-length-4
-same-length-4 c = search needs
-
 returns-4 : tie.Need-returns-4
 returns-4 c =
     let g = c .before .before .before .before in
@@ -57,15 +36,15 @@ pub job-spec : {M : Type 1} → statement M
 job-spec =
     tie.close
     (tie.spec
-    is-set-requires
-    same-length
+    (λ c κs. search needs)
+    (λ c. search needs)
     returns
-    job-in-range-requires
-    same-length-2
+    (λ c κs. search needs)
+    (λ c. search needs)
     returns-2
-    is-lost-requires
-    same-length-3
+    (λ c κs. search needs)
+    (λ c. search needs)
     returns-3
     begin-requires
-    same-length-4
+    (λ c. search needs)
     returns-4)

@@ -19,22 +19,10 @@ abbrev μ-loop : tie.MeasureT-loop
 loop-holds : tie.Need-loop-holds Inv-loop μ-loop
 loop-holds c = (search needs, search needs, search needs, below-start _ _)
 
-start-chare-requires : tie.Need-start-chare-requires Inv-loop μ-loop
-start-chare-requires c κs = search needs
-
-add-c : tie.Need-add-c Inv-loop μ-loop
-add-c c = search needs
-
-loop-less : tie.Need-loop-less Inv-loop μ-loop
-loop-less c = search needs
-
 loop-again : tie.Need-loop-again Inv-loop μ-loop
 loop-again c =
     let l = c .before .before .before .before .before in
     (search needs, search needs, search needs, c .before .before .start-chare .ensures ∙ ap (λ v. started v (l .loop .c)) (l .loop .inv .3) ∙ below-more _ _ (l .loop .c) (l .loop .inv .0) (omega arith))
-
-same-length : tie.Need-same-length Inv-loop μ-loop
-same-length c = search needs
 
 returns : tie.Need-returns Inv-loop μ-loop
 returns c =
@@ -48,9 +36,9 @@ start-chares-spec =
     Inv-loop
     μ-loop
     loop-holds
-    start-chare-requires
-    add-c
-    loop-less
+    (λ c κs. search needs)
+    (λ c. search needs)
+    (λ c. search needs)
     loop-again
-    same-length
+    (λ c. search needs)
     returns)

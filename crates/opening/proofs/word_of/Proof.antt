@@ -5,26 +5,11 @@ use Rattle.opening.specs.Words.{word-buddy, word-held, word-number}
 use Rattle.opening.proofs.word_of.Statement.{statement}
 use Rattle.opening.proofs.word_of.Tie as tie
 
-buddy-of-requires : tie.Need-buddy-of-requires
-buddy-of-requires c κs = search needs
-
-cast-result : tie.Need-cast-result
-cast-result c = search needs
-
 returns : tie.Need-returns
 returns c = c .buddy-of .ensures ∙ word-buddy _ _ _ (c .before .if1 .taken)
 
-held-of-requires : tie.Need-held-of-requires
-held-of-requires c κs = search needs
-
 returns-2 : tie.Need-returns-2
 returns-2 c = c .held-of .ensures ∙ word-held _ _ _ (c .before .before .if1 .left) (c .before .if2 .taken)
-
-number-of-requires : tie.Need-number-of-requires
-number-of-requires c κs = search needs
-
-cast-result-2 : tie.Need-cast-result-2
-cast-result-2 c = search needs
 
 returns-3 : tie.Need-returns-3
 returns-3 c = c .number-of .ensures ∙ word-number _ _ _ (c .before .before .if1 .left) (c .before .if2 .left)
@@ -33,11 +18,11 @@ pub word-of-spec : {M : Type 1} → statement M
 word-of-spec =
     tie.close
     (tie.spec
-    buddy-of-requires
-    cast-result
+    (λ c κs. search needs)
+    (λ c. search needs)
     returns
-    held-of-requires
+    (λ c κs. search needs)
     returns-2
-    number-of-requires
-    cast-result-2
+    (λ c κs. search needs)
+    (λ c. search needs)
     returns-3)

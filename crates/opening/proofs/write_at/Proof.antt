@@ -4,27 +4,6 @@ use Rattle.opening.specs.Words.{part-written}
 use Rattle.opening.proofs.write_at.Statement.{statement}
 use Rattle.opening.proofs.write_at.Tie as tie
 
-add-to : tie.Need-add-to
-add-to c = search needs
-
-mul-write-part : tie.Need-mul-write-part
-mul-write-part c = search needs
-
-sub-write-part : tie.Need-sub-write-part
-sub-write-part c = search needs
-
-part-write-part-start : tie.Need-part-write-part-start
-part-write-part-start c = search needs
-
-part-write-part-end : tie.Need-part-write-part-end
-part-write-part-end c = search needs
-
-write-part-requires : tie.Need-write-part-requires
-write-part-requires c κs = search needs
-
-same-length : tie.Need-same-length
-same-length c = search needs
-
 returns : tie.Need-returns
 returns c =
     let w = c .before .before in
@@ -35,11 +14,11 @@ pub write-at-spec : {M : Type 1} → statement M
 write-at-spec =
     tie.close
     (tie.spec
-    add-to
-    mul-write-part
-    sub-write-part
-    part-write-part-start
-    part-write-part-end
-    write-part-requires
-    same-length
+    (λ c. search needs)
+    (λ c. search needs)
+    (λ c. search needs)
+    (λ c. search needs)
+    (λ c. search needs)
+    (λ c κs. search needs)
+    (λ c. search needs)
     returns)

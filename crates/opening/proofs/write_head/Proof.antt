@@ -5,27 +5,6 @@ use Rattle.opening.specs.Words.{head-written}
 use Rattle.opening.proofs.write_head.Statement.{statement}
 use Rattle.opening.proofs.write_head.Tie as tie
 
-write-numbers-requires : tie.Need-write-numbers-requires
-write-numbers-requires c κs = search needs
-
-write-at-requires : tie.Need-write-at-requires
-write-at-requires c κs = search needs
-
-write-at-requires-2 : tie.Need-write-at-requires-2
-write-at-requires-2 c κs = search needs
-
-write-at-requires-3 : tie.Need-write-at-requires-3
-write-at-requires-3 c κs = search needs
-
-write-at-requires-4 : tie.Need-write-at-requires-4
-write-at-requires-4 c κs = search needs
-
-write-at-requires-5 : tie.Need-write-at-requires-5
-write-at-requires-5 c κs = search needs
-
-same-length : tie.Need-same-length
-same-length c = search needs
-
 returns : tie.Need-returns
 returns c =
     let w5 = c .before .before in
@@ -48,11 +27,11 @@ pub write-head-spec : {M : Type 1} → statement M
 write-head-spec =
     tie.close
     (tie.spec
-    write-numbers-requires
-    write-at-requires
-    write-at-requires-2
-    write-at-requires-3
-    write-at-requires-4
-    write-at-requires-5
-    same-length
+    (λ c κs. search needs)
+    (λ c κs. search needs)
+    (λ c κs. search needs)
+    (λ c κs. search needs)
+    (λ c κs. search needs)
+    (λ c κs. search needs)
+    (λ c. search needs)
     returns)

@@ -4,15 +4,9 @@ use Rattle.packets.specs.Stays.{stays}
 use Rattle.packets.proofs.after_crash.Statement.{statement}
 use Rattle.packets.proofs.after_crash.Tie as tie
 
-sift-requires : tie.Need-sift-requires
-sift-requires c κs = search needs
-
-same-length : tie.Need-same-length
-same-length c = search needs
-
 returns : tie.Need-returns
 unfolding stays
 returns c = c .before .before .sift .ensures
 
 pub after-crash-spec : {M : Type 1} → statement M
-after-crash-spec = tie.close (tie.spec sift-requires same-length returns)
+after-crash-spec = tie.close (tie.spec (λ c κs. search needs) (λ c. search needs) returns)

@@ -24,50 +24,14 @@ returns c = nobody _ _ _ _ _ (λ s r. omega arith)
 returns-2 : tie.Need-returns-2 Inv-loop μ-loop
 returns-2 c = nobody _ _ _ _ _ (λ s r. omega arith)
 
-mul-name : tie.Need-mul-name Inv-loop μ-loop
-mul-name c = search needs
-
-add-name : tie.Need-add-name Inv-loop μ-loop
-add-name c = search needs
-
-mul-name-2 : tie.Need-mul-name-2 Inv-loop μ-loop
-mul-name-2 c = search needs
-
-add-name-2 : tie.Need-add-name-2 Inv-loop μ-loop
-add-name-2 c = search needs
-
-count-requires : tie.Need-count-requires Inv-loop μ-loop
-count-requires c κs = search needs
-
 loop-holds : tie.Need-loop-holds Inv-loop μ-loop
 loop-holds c = (search needs, place-start _ _)
-
-add-w : tie.Need-add-w Inv-loop μ-loop
-add-w c = search needs
-
-mul-w : tie.Need-mul-w Inv-loop μ-loop
-mul-w c = search needs
-
-shared-slice-read-w : tie.Need-shared-slice-read-w Inv-loop μ-loop
-shared-slice-read-w c = search needs
-
-has-name-requires : tie.Need-has-name-requires Inv-loop μ-loop
-has-name-requires c κs = search needs
-
-unpack-requires : tie.Need-unpack-requires Inv-loop μ-loop
-unpack-requires c κs = search needs
 
 returns-3 : tie.Need-returns-3 Inv-loop μ-loop
 returns-3 c =
     let h = c .before .before in
     let l = h .before .before .before .loop in
     sought-at _ _ _ (λ w. by-name _ _ _ _ (omega arith) (omega arith) (search needs) w) _ (seek-hit _ _ _ (l .inv .1) (omega arith) (sym (h .has-name .ensures) ∙ c .before .if3 .taken)) _ (c .unpack .ensures ∙ ap unpacked (row-at _ _ (omega arith))) (omega arith)
-
-add-i : tie.Need-add-i Inv-loop μ-loop
-add-i c = search needs
-
-loop-less : tie.Need-loop-less Inv-loop μ-loop
-loop-less c = search needs
 
 loop-again : tie.Need-loop-again Inv-loop μ-loop
 loop-again c =
@@ -88,19 +52,19 @@ find-spec =
     μ-loop
     returns
     returns-2
-    mul-name
-    add-name
-    mul-name-2
-    add-name-2
-    count-requires
+    (λ c. search needs)
+    (λ c. search needs)
+    (λ c. search needs)
+    (λ c. search needs)
+    (λ c κs. search needs)
     loop-holds
-    add-w
-    mul-w
-    shared-slice-read-w
-    has-name-requires
-    unpack-requires
+    (λ c. search needs)
+    (λ c. search needs)
+    (λ c. search needs)
+    (λ c κs. search needs)
+    (λ c κs. search needs)
     returns-3
-    add-i
-    loop-less
+    (λ c. search needs)
+    (λ c. search needs)
     loop-again
     returns-4)

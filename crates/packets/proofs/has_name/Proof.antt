@@ -7,11 +7,8 @@ use Rattle.packets.proofs.has_name.Tie as tie
 returns : tie.Need-returns
 returns c = other-name _ _ _ (c .if1 .taken)
 
-kind-requires : tie.Need-kind-requires
-kind-requires c κs = search needs
-
 returns-2 : tie.Need-returns-2
 returns-2 c = same-name _ _ _ (c .before .if1 .left) _ (c .kind .ensures)
 
 pub has-name-spec : {M : Type 1} → statement M
-has-name-spec = tie.close (tie.spec returns kind-requires returns-2)
+has-name-spec = tie.close (tie.spec returns (λ c κs. search needs) returns-2)

@@ -5,9 +5,6 @@ use Rattle.packets.specs.Names.{kind-zero, kind-past, kind-shown}
 use Rattle.packets.proofs.kind.Statement.{statement}
 use Rattle.packets.proofs.kind.Tie as tie
 
-cast-k : tie.Need-cast-k
-cast-k c = search needs
-
 returns : tie.Need-returns
 returns c = kind-zero _ _ refl (c .if1 .taken)
 
@@ -18,4 +15,4 @@ returns-3 : tie.Need-returns-3
 returns-3 c = kind-shown _ _ refl (c .before .if1 .left) (c .if2 .left)
 
 pub kind-spec : {M : Type 1} → statement M
-kind-spec = tie.close (tie.spec cast-k returns returns-2 returns-3)
+kind-spec = tie.close (tie.spec (λ c. search needs) returns returns-2 returns-3)

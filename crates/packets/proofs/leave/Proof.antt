@@ -4,14 +4,8 @@ use Rattle.packets.specs.View.{left}
 use Rattle.packets.proofs.leave.Statement.{statement}
 use Rattle.packets.proofs.leave.Tie as tie
 
-remove-requires : tie.Need-remove-requires
-remove-requires c κs = search needs
-
-same-length : tie.Need-same-length
-same-length c = search needs
-
 returns : tie.Need-returns
 returns c = left _ _ _ (c .before .before .remove .ensures)
 
 pub leave-spec : {M : Type 1} → statement M
-leave-spec = tie.close (tie.spec remove-requires same-length returns)
+leave-spec = tie.close (tie.spec (λ c κs. search needs) (λ c. search needs) returns)

@@ -4,14 +4,8 @@ use Rattle.packets.specs.Packing.{packet-says}
 use Rattle.packets.proofs.pack.Statement.{statement}
 use Rattle.packets.proofs.pack.Tie as tie
 
-body-requires : tie.Need-body-requires
-body-requires c κs = search needs
-
-pack-requires : tie.Need-pack-requires
-pack-requires c κs = search needs
-
 returns : tie.Need-returns
 returns c = packet-says _ (c .before .before .args .p) _ (c .before .body .ensures) (c .pack .ensures)
 
 pub pack-spec : {M : Type 1} → statement M
-pack-spec = tie.close (tie.spec body-requires pack-requires returns)
+pack-spec = tie.close (tie.spec (λ c κs. search needs) (λ c κs. search needs) returns)

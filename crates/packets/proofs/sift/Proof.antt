@@ -20,47 +20,11 @@ Inv-loop crash ws₀ h p n i₀ m₀ ws i m =
 abbrev μ-loop : tie.MeasureT-loop
 μ-loop crash ws₀ h p n i₀ m₀ ws i m = n - i
 
-count-requires : tie.Need-count-requires Inv-loop μ-loop
-count-requires c κs = search needs
-
-same-length : tie.Need-same-length Inv-loop μ-loop
-same-length c = search needs
-
 returns : tie.Need-returns Inv-loop μ-loop
 returns c = keep-none _ _ (omega arith)
 
 loop-holds : tie.Need-loop-holds Inv-loop μ-loop
 loop-holds c = (search needs, search needs, omega arith, refl, c .before .count .ensures .0, keep-start _ _)
-
-add-w : tie.Need-add-w Inv-loop μ-loop
-add-w c = search needs
-
-mul-w : tie.Need-mul-w Inv-loop μ-loop
-mul-w c = search needs
-
-slice-read-w : tie.Need-slice-read-w Inv-loop μ-loop
-slice-read-w c = search needs
-
-add-i : tie.Need-add-i Inv-loop μ-loop
-add-i c = search needs
-
-stays-requires : tie.Need-stays-requires Inv-loop μ-loop
-stays-requires c κs = search needs
-
-add-ws : tie.Need-add-ws Inv-loop μ-loop
-add-ws c = search needs
-
-mul-ws : tie.Need-mul-ws Inv-loop μ-loop
-mul-ws c = search needs
-
-slice-write-ws : tie.Need-slice-write-ws Inv-loop μ-loop
-slice-write-ws c = search needs
-
-add-m : tie.Need-add-m Inv-loop μ-loop
-add-m c = search needs
-
-loop-less : tie.Need-loop-less Inv-loop μ-loop
-loop-less c = search needs
 
 loop-again : tie.Need-loop-again Inv-loop μ-loop
 loop-again c =
@@ -74,20 +38,11 @@ loop-again c =
       sym (sift-keep unpacked (stays _ _ _) (λ x. x) (l .ws) (l .i) (l .m) _ (omega arith) (l .inv .0) (sym (t .stays .ensures) ∙ c .if2 .taken) refl) ∙ l .inv .5,
     )
 
-loop-less-2 : tie.Need-loop-less-2 Inv-loop μ-loop
-loop-less-2 c = search needs
-
 loop-again-2 : tie.Need-loop-again-2 Inv-loop μ-loop
 loop-again-2 c =
     let t = c .before in
     let l = t .before .before .before .loop in
     (search needs, search needs, l .inv .2, l .inv .3, l .inv .4, sym (sift-skip unpacked (stays _ _ _) (λ x. x) (l .ws) (l .i) (l .m) (omega arith) (sym (t .stays .ensures) ∙ c .if2 .left)) ∙ l .inv .5)
-
-slice-write-ws-2 : tie.Need-slice-write-ws-2 Inv-loop μ-loop
-slice-write-ws-2 c = search needs
-
-same-length-2 : tie.Need-same-length-2 Inv-loop μ-loop
-same-length-2 c = search needs
 
 returns-2 : tie.Need-returns-2 Inv-loop μ-loop
 returns-2 c =
@@ -100,23 +55,23 @@ sift-spec =
     (tie.spec
     Inv-loop
     μ-loop
-    count-requires
-    same-length
+    (λ c κs. search needs)
+    (λ c. search needs)
     returns
     loop-holds
-    add-w
-    mul-w
-    slice-read-w
-    add-i
-    stays-requires
-    add-ws
-    mul-ws
-    slice-write-ws
-    add-m
-    loop-less
+    (λ c. search needs)
+    (λ c. search needs)
+    (λ c. search needs)
+    (λ c. search needs)
+    (λ c κs. search needs)
+    (λ c. search needs)
+    (λ c. search needs)
+    (λ c. search needs)
+    (λ c. search needs)
+    (λ c. search needs)
     loop-again
-    loop-less-2
+    (λ c. search needs)
     loop-again-2
-    slice-write-ws-2
-    same-length-2
+    (λ c. search needs)
+    (λ c. search needs)
     returns-2)

@@ -6,15 +6,6 @@ use Rattle.packets.specs.Stays.{gone-to, no-crash, from-elsewhere, grant
 use Rattle.packets.proofs.stays.Statement.{statement}
 use Rattle.packets.proofs.stays.Tie as tie
 
-kind-requires : tie.Need-kind-requires
-kind-requires c κs = search needs
-
-unpack-requires : tie.Need-unpack-requires
-unpack-requires c κs = search needs
-
-destination-requires : tie.Need-destination-requires
-destination-requires c κs = search needs
-
 returns : tie.Need-returns
 returns c =
     let d = c .before in
@@ -27,9 +18,6 @@ returns-2 c =
     let d = e .before in
     let u = d .before in
     no-crash _ _ _ _ _ (u .unpack .ensures) _ (u .before .kind .ensures) _ (d .destination .ensures) (e .if1 .left) (not-true _ (c .if2 .taken))
-
-on-requires : tie.Need-on-requires
-on-requires c κs = search needs
 
 returns-3 : tie.Need-returns-3
 returns-3 c =
@@ -61,12 +49,12 @@ pub stays-spec : {M : Type 1} → statement M
 stays-spec =
     tie.close
     (tie.spec
-    kind-requires
-    unpack-requires
-    destination-requires
+    (λ c κs. search needs)
+    (λ c κs. search needs)
+    (λ c κs. search needs)
     returns
     returns-2
-    on-requires
+    (λ c κs. search needs)
     returns-3
     returns-4
     returns-5)

@@ -4,15 +4,9 @@ use Rattle.packets.specs.Words.{as-packet, unpacked}
 use Rattle.packets.proofs.unpack.Statement.{statement}
 use Rattle.packets.proofs.unpack.Tie as tie
 
-unpack-requires : tie.Need-unpack-requires
-unpack-requires c κs = search needs
-
-content-requires : tie.Need-content-requires
-content-requires c κs = search needs
-
 returns : tie.Need-returns
 unfolding unpacked as-packet
 returns c = rw (c .content .ensures, c .before .unpack .ensures)
 
 pub unpack-spec : {M : Type 1} → statement M
-unpack-spec = tie.close (tie.spec unpack-requires content-requires returns)
+unpack-spec = tie.close (tie.spec (λ c κs. search needs) (λ c κs. search needs) returns)

@@ -8,32 +8,11 @@ use borrow.Author.Needs.{needs}
 use Rattle.restart.proofs.change.Statement.{statement}
 use Rattle.restart.proofs.change.Tie as tie
 
-add-s : tie.Need-add-s
-add-s c = search needs
-
-mul-s : tie.Need-mul-s
-mul-s c = search needs
-
-slice-write-s : tie.Need-slice-write-s
-slice-write-s c = search needs
-
-all-back-requires : tie.Need-all-back-requires
-all-back-requires c κs = search needs
-
-sub-copy-over : tie.Need-sub-copy-over
-sub-copy-over c = search needs
-
-part-copy-over-start : tie.Need-part-copy-over-start
-part-copy-over-start c = search needs
-
 part-copy-over-end : tie.Need-part-copy-over-end
 part-copy-over-end c =
     let a = c .before .before .before .before .before .before .before .args in
     let e = length-set (a .s .now) (STATUS + a .p) 2 in
     search needs
-
-copy-over-requires : tie.Need-copy-over-requires
-copy-over-requires c κs = search needs
 
 same-length : tie.Need-same-length
 same-length c =
@@ -52,13 +31,13 @@ pub change-spec : {M : Type 1} → statement M
 change-spec =
     tie.close
     (tie.spec
-    add-s
-    mul-s
-    slice-write-s
-    all-back-requires
-    sub-copy-over
-    part-copy-over-start
+    (λ c. search needs)
+    (λ c. search needs)
+    (λ c. search needs)
+    (λ c κs. search needs)
+    (λ c. search needs)
+    (λ c. search needs)
     part-copy-over-end
-    copy-over-requires
+    (λ c κs. search needs)
     same-length
     returns)

@@ -4,21 +4,6 @@ use borrow.Author.Needs.{needs}
 use Rattle.restart.proofs.judge.Statement.{statement}
 use Rattle.restart.proofs.judge.Tie as tie
 
-is-set-requires : tie.Need-is-set-requires
-is-set-requires c κs = search needs
-
-is-machine-requires : tie.Need-is-machine-requires
-is-machine-requires c κs = search needs
-
-is-lost-requires : tie.Need-is-lost-requires
-is-lost-requires c κs = search needs
-
-is-down-requires : tie.Need-is-down-requires
-is-down-requires c κs = search needs
-
-first-no-requires : tie.Need-first-no-requires
-first-no-requires c κs = search needs
-
 returns : tie.Need-returns
 returns c =
     let a = c .before .before .before .before .before .before .args in
@@ -28,9 +13,9 @@ pub judge-spec : {M : Type 1} → statement M
 judge-spec =
     tie.close
     (tie.spec
-    is-set-requires
-    is-machine-requires
-    is-lost-requires
-    is-down-requires
-    first-no-requires
+    (λ c κs. search needs)
+    (λ c κs. search needs)
+    (λ c κs. search needs)
+    (λ c κs. search needs)
+    (λ c κs. search needs)
     returns)

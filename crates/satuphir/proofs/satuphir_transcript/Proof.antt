@@ -4,21 +4,12 @@ use Rattle.satuphir.specs.Entry.{entered, not-entered}
 use Rattle.satuphir.proofs.satuphir_transcript.Statement.{statement}
 use Rattle.satuphir.proofs.satuphir_transcript.Tie as tie
 
-whole-requires : tie.Need-whole-requires
-whole-requires c κs = search needs
-
-same-length : tie.Need-same-length
-same-length c = search needs
-
 returns : tie.Need-returns
 returns c = entered _ _ _ _ (c .before .before .before .whole .ensures) (c .if1 .taken)
-
-same-length-2 : tie.Need-same-length-2
-same-length-2 c = search needs
 
 returns-2 : tie.Need-returns-2
 returns-2 c = not-entered _ _ _ _ (c .before .before .before .whole .ensures) (c .if1 .left)
 
 pub satuphir-transcript-spec : {M : Type 1} → statement M
 satuphir-transcript-spec =
-    tie.close (tie.spec whole-requires same-length returns same-length-2 returns-2)
+    tie.close (tie.spec (λ c κs. search needs) (λ c. search needs) returns (λ c. search needs) returns-2)

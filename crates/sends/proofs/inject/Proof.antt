@@ -4,12 +4,6 @@ use borrow.Author.Needs.{needs}
 use Rattle.sends.proofs.inject.Statement.{statement}
 use Rattle.sends.proofs.inject.Tie as tie
 
-judge-inject-requires : tie.Need-judge-inject-requires
-judge-inject-requires c κs = search needs
-
-same-length : tie.Need-same-length
-same-length c = search needs
-
 returns : tie.Need-returns
 returns c =
     let j = c .before in
@@ -24,9 +18,6 @@ send-one-requires c κs =
     let h = index (a .s .now) (a .chare) (a .value) (a .hops) _ (j .judge-inject .ensures) (i .if1 .left) in
     (search needs, (omega arith, h, hops-in (a .s .now) (a .chare) (a .value) (a .hops) _ (j .judge-inject .ensures) (i .if1 .left)))
 
-same-length-2 : tie.Need-same-length-2
-same-length-2 c = search needs
-
 returns-2 : tie.Need-returns-2
 returns-2 c =
     let o = c .before .before .before in
@@ -34,9 +25,6 @@ returns-2 c =
     let j = i .before in
     let a = j .before .before .before .args in
     not-sent (a .s .now) (a .chare) (a .value) (a .hops) _ (j .judge-inject .ensures) (i .if1 .left) _ _ (o .send-one .ensures) (c .if2 .taken)
-
-same-length-3 : tie.Need-same-length-3
-same-length-3 c = search needs
 
 returns-3 : tie.Need-returns-3
 returns-3 c =
@@ -50,11 +38,11 @@ pub inject-spec : {M : Type 1} → statement M
 inject-spec =
     tie.close
     (tie.spec
-    judge-inject-requires
-    same-length
+    (λ c κs. search needs)
+    (λ c. search needs)
     returns
     send-one-requires
-    same-length-2
+    (λ c. search needs)
     returns-2
-    same-length-3
+    (λ c. search needs)
     returns-3)

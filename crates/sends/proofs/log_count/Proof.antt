@@ -5,18 +5,6 @@ use borrow.Author.Needs.{needs}
 use Rattle.sends.proofs.log_count.Statement.{statement}
 use Rattle.sends.proofs.log_count.Tie as tie
 
-sub-count : tie.Need-sub-count
-sub-count c = search needs
-
-part-count-start : tie.Need-part-count-start
-part-count-start c = search needs
-
-part-count-end : tie.Need-part-count-end
-part-count-end c = search needs
-
-count-requires : tie.Need-count-requires
-count-requires c κs = search needs
-
 cast-result : tie.Need-cast-result
 cast-result c = let st = c .before .before .before in omega (arith, log-top (st .args .m .now) (st .pre), c .count .ensures)
 
@@ -28,4 +16,4 @@ returns c =
 pub log-count-spec : {M : Type 1} → statement M
 log-count-spec =
     tie.close
-    (tie.spec sub-count part-count-start part-count-end count-requires cast-result returns)
+    (tie.spec (λ c. search needs) (λ c. search needs) (λ c. search needs) (λ c κs. search needs) cast-result returns)

@@ -7,26 +7,8 @@ use borrow.Author.Needs.{needs}
 use Rattle.sends.proofs.next_entry.Statement.{statement}
 use Rattle.sends.proofs.next_entry.Tie as tie
 
-height-requires : tie.Need-height-requires
-height-requires c κs = search needs
-
 returns : tie.Need-returns
 returns c = let k = c .before in unfold found-entry in none-next (k .before .before .args .m .now) (sym (k .height .ensures) ∙ c .if1 .taken)
-
-sub-find-tn : tie.Need-sub-find-tn
-sub-find-tn c = search needs
-
-part-find-tn-start : tie.Need-part-find-tn-start
-part-find-tn-start c = search needs
-
-part-find-tn-end : tie.Need-part-find-tn-end
-part-find-tn-end c = search needs
-
-add-find-tn : tie.Need-add-find-tn
-add-find-tn c = search needs
-
-find-tn-requires : tie.Need-find-tn-requires
-find-tn-requires c κs = search needs
 
 returns-2 : tie.Need-returns-2
 returns-2 c =
@@ -38,11 +20,11 @@ pub next-entry-spec : {M : Type 1} → statement M
 next-entry-spec =
     tie.close
     (tie.spec
-    height-requires
+    (λ c κs. search needs)
     returns
-    sub-find-tn
-    part-find-tn-start
-    part-find-tn-end
-    add-find-tn
-    find-tn-requires
+    (λ c. search needs)
+    (λ c. search needs)
+    (λ c. search needs)
+    (λ c. search needs)
+    (λ c κs. search needs)
     returns-2)

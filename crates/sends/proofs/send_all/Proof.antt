@@ -14,18 +14,6 @@ returns c =
     let a = st .args in
     rw (no-hops (view (a .s .now) .job) (a .c) (a .hops) (c .if1 .taken)) (none-made (a .s .now) (st .pre .0) (a .c) (a .value) (a .hops - 1))
 
-sub-h : tie.Need-sub-h
-sub-h c = search needs
-
-first-requires : tie.Need-first-requires
-first-requires c κs = search needs
-
-second-requires : tie.Need-second-requires
-second-requires c κs = search needs
-
-same-length : tie.Need-same-length
-same-length c = search needs
-
 returns-2 : tie.Need-returns-2
 returns-2 c =
     let i = c .before in
@@ -35,12 +23,6 @@ returns-2 c =
     let st = e .before .before in
     let a = st .args in
     rw (job-at (a .s .now), no-ports (job-of (a .s .now)) (a .c) (a .hops) (e .if1 .left) (sym (b .first .ensures .0) ∙ i .if2 .taken) (sym (d .second .ensures .0) ∙ c .if3 .taken)) (none-made (a .s .now) (st .pre .0) (a .c) (a .value) (a .hops - 1))
-
-send-one-requires : tie.Need-send-one-requires
-send-one-requires c κs = search needs
-
-same-length-2 : tie.Need-same-length-2
-same-length-2 c = search needs
 
 returns-3 : tie.Need-returns-3
 returns-3 c =
@@ -53,12 +35,6 @@ returns-3 c =
     let a = e .before .before .args in
     rw (job-at (a .s .now), only-second (job-of (a .s .now)) (a .c) (a .hops) (e .if1 .left) (sym (b .first .ensures .0) ∙ i .if2 .taken) (λ z. t .if3 .left (d .second .ensures .0 ∙ z)), ← d .second .ensures .0) (o .send-one .ensures)
 
-send-one-requires-2 : tie.Need-send-one-requires-2
-send-one-requires-2 c κs = search needs
-
-same-length-3 : tie.Need-same-length-3
-same-length-3 c = search needs
-
 returns-4 : tie.Need-returns-4
 returns-4 c =
     let o = c .before .before in
@@ -69,12 +45,6 @@ returns-4 c =
     let e = b .before .before in
     let a = e .before .before .args in
     rw (job-at (a .s .now), only-first (job-of (a .s .now)) (a .c) (a .hops) (e .if1 .left) (λ z. i .if2 .left (b .first .ensures .0 ∙ z)) (sym (d .second .ensures .0) ∙ t .if4 .taken), ← b .first .ensures .0) (o .send-one2 .ensures)
-
-send-two-requires : tie.Need-send-two-requires
-send-two-requires c κs = search needs
-
-same-length-4 : tie.Need-same-length-4
-same-length-4 c = search needs
 
 returns-5 : tie.Need-returns-5
 returns-5 c =
@@ -92,17 +62,17 @@ send-all-spec =
     tie.close
     (tie.spec
     returns
-    sub-h
-    first-requires
-    second-requires
-    same-length
+    (λ c. search needs)
+    (λ c κs. search needs)
+    (λ c κs. search needs)
+    (λ c. search needs)
     returns-2
-    send-one-requires
-    same-length-2
+    (λ c κs. search needs)
+    (λ c. search needs)
     returns-3
-    send-one-requires-2
-    same-length-3
+    (λ c κs. search needs)
+    (λ c. search needs)
     returns-4
-    send-two-requires
-    same-length-4
+    (λ c κs. search needs)
+    (λ c. search needs)
     returns-5)

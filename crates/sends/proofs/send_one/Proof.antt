@@ -3,21 +3,6 @@ use borrow.Author.Needs.{needs}
 use Rattle.sends.proofs.send_one.Statement.{statement}
 use Rattle.sends.proofs.send_one.Tie as tie
 
-plan-of-requires : tie.Need-plan-of-requires
-plan-of-requires c κs = search needs
-
-logged-requires : tie.Need-logged-requires
-logged-requires c κs = search needs
-
-waiting-requires : tie.Need-waiting-requires
-waiting-requires c κs = search needs
-
-one-verdict-requires : tie.Need-one-verdict-requires
-one-verdict-requires c κs = search needs
-
-same-length : tie.Need-same-length
-same-length c = search needs
-
 returns : tie.Need-returns
 returns c =
     let v = c .before in
@@ -27,12 +12,6 @@ returns c =
     let st = p .before .before .before in
     let a = st .args in
     one-refused (a .s .now) (a .a) (a .b) (a .value) (a .hops) _ (p .plan-of .ensures) _ _ _ (g .logged .ensures .0) (w .waiting .ensures .0) (v .one-verdict .ensures) (c .if1 .taken)
-
-send-requires : tie.Need-send-requires
-send-requires c κs = search needs
-
-same-length-2 : tie.Need-same-length-2
-same-length-2 c = search needs
 
 returns-2 : tie.Need-returns-2
 returns-2 c =
@@ -50,12 +29,12 @@ pub send-one-spec : {M : Type 1} → statement M
 send-one-spec =
     tie.close
     (tie.spec
-    plan-of-requires
-    logged-requires
-    waiting-requires
-    one-verdict-requires
-    same-length
+    (λ c κs. search needs)
+    (λ c κs. search needs)
+    (λ c κs. search needs)
+    (λ c κs. search needs)
+    (λ c. search needs)
     returns
-    send-requires
-    same-length-2
+    (λ c κs. search needs)
+    (λ c. search needs)
     returns-2)

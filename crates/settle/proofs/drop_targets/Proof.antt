@@ -21,22 +21,10 @@ loop-holds c =
     let st = c .before in
     (search needs, search needs, st .pre .0, below-start _ _ (desk _ _ (st .pre .0) (st .pre .1)))
 
-drop-target-requires : tie.Need-drop-target-requires Inv-loop μ-loop
-drop-target-requires c κs = search needs
-
-add-c : tie.Need-add-c Inv-loop μ-loop
-add-c c = search needs
-
-loop-less : tie.Need-loop-less Inv-loop μ-loop
-loop-less c = search needs
-
 loop-again : tie.Need-loop-again Inv-loop μ-loop
 loop-again c =
     let l = c .before .before .before .before .before in
     (search needs, search needs, search needs, c .before .before .drop-target .ensures ∙ ap (λ v. dropped v (l .before .before .args .p) (l .loop .c)) (l .loop .inv .3) ∙ below-more _ _ (l .loop .c))
-
-same-length : tie.Need-same-length Inv-loop μ-loop
-same-length c = search needs
 
 returns : tie.Need-returns Inv-loop μ-loop
 returns c =
@@ -51,9 +39,9 @@ drop-targets-spec =
     Inv-loop
     μ-loop
     loop-holds
-    drop-target-requires
-    add-c
-    loop-less
+    (λ c κs. search needs)
+    (λ c. search needs)
+    (λ c. search needs)
     loop-again
-    same-length
+    (λ c. search needs)
     returns)

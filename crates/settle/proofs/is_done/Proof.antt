@@ -17,28 +17,16 @@ Inv-loop s p c₀ c = (1 ≤ c) × (c ≤ 13) × (is-done (view s) p ≡ each (p
 abbrev μ-loop : tie.MeasureT-loop
 μ-loop s p c₀ c = 13 - c
 
-is-catching-up-requires : tie.Need-is-catching-up-requires Inv-loop μ-loop
-is-catching-up-requires c κs = search needs
-
 returns : tie.Need-returns Inv-loop μ-loop
 returns c = not-done _ _ (sym (c .before .is-catching-up .ensures) ∙ not-true _ (c .if1 .taken))
 
 loop-holds : tie.Need-loop-holds Inv-loop μ-loop
 loop-holds c = (search needs, search needs, each-passes _ _ (sym (c .before .is-catching-up .ensures) ∙ not-false _ (c .if1 .left)))
 
-passes-requires : tie.Need-passes-requires Inv-loop μ-loop
-passes-requires c κs = search needs
-
 returns-2 : tie.Need-returns-2 Inv-loop μ-loop
 returns-2 c =
     let l = c .before .before .before .loop in
     each-miss _ 13 (l .c) _ (l .inv .2) (omega arith) (sym (c .before .passes .ensures) ∙ not-true _ (c .if2 .taken))
-
-add-c : tie.Need-add-c Inv-loop μ-loop
-add-c c = search needs
-
-loop-less : tie.Need-loop-less Inv-loop μ-loop
-loop-less c = search needs
 
 loop-again : tie.Need-loop-again Inv-loop μ-loop
 loop-again c =
@@ -56,12 +44,12 @@ is-done-spec =
     (tie.spec
     Inv-loop
     μ-loop
-    is-catching-up-requires
+    (λ c κs. search needs)
     returns
     loop-holds
-    passes-requires
+    (λ c κs. search needs)
     returns-2
-    add-c
-    loop-less
+    (λ c. search needs)
+    (λ c. search needs)
     loop-again
     returns-3)

@@ -6,14 +6,8 @@ use Rattle.settle.specs.Done.{passes-off, passes-on}
 use Rattle.settle.proofs.passes.Statement.{statement}
 use Rattle.settle.proofs.passes.Tie as tie
 
-on-requires : tie.Need-on-requires
-on-requires c κs = search needs
-
 returns : tie.Need-returns
 returns c = passes-off _ _ _ (sym (c .before .on .ensures) ∙ not-true _ (c .if1 .taken))
-
-has-caught-up-requires : tie.Need-has-caught-up-requires
-has-caught-up-requires c κs = search needs
 
 returns-2 : tie.Need-returns-2
 returns-2 c =
@@ -21,4 +15,4 @@ returns-2 c =
     c .has-caught-up .ensures ∙ passes-on _ _ _ (sym (e .before .on .ensures) ∙ not-false _ (e .if1 .left))
 
 pub passes-spec : {M : Type 1} → statement M
-passes-spec = tie.close (tie.spec on-requires returns has-caught-up-requires returns-2)
+passes-spec = tie.close (tie.spec (λ c κs. search needs) returns (λ c κs. search needs) returns-2)

@@ -9,21 +9,6 @@ use Rattle.settle.specs.Settled.{machine-stays, machine-settles}
 use Rattle.settle.proofs.settle_machine.Statement.{statement}
 use Rattle.settle.proofs.settle_machine.Tie as tie
 
-is-done-requires : tie.Need-is-done-requires
-is-done-requires c κs = search needs
-
-add-s : tie.Need-add-s
-add-s c = search needs
-
-mul-s : tie.Need-mul-s
-mul-s c = search needs
-
-slice-write-s : tie.Need-slice-write-s
-slice-write-s c = search needs
-
-drop-targets-requires : tie.Need-drop-targets-requires
-drop-targets-requires c κs = search needs
-
 same-length : tie.Need-same-length
 same-length c =
     let st = c .before .before .before .before .before .before .before .before in
@@ -35,9 +20,6 @@ returns c =
     let st = t .before .before .before .before in
     machine-settles _ _ _ (st .pre .0) (omega arith) (sym (t .before .is-done .ensures) ∙ t .if1 .taken) (c .before .before .drop-targets .ensures)
 
-same-length-2 : tie.Need-same-length-2
-same-length-2 c = search needs
-
 returns-2 : tie.Need-returns-2
 returns-2 c = machine-stays _ _ (sym (c .before .is-done .ensures) ∙ c .if1 .left)
 
@@ -45,12 +27,12 @@ pub settle-machine-spec : {M : Type 1} → statement M
 settle-machine-spec =
     tie.close
     (tie.spec
-    is-done-requires
-    add-s
-    mul-s
-    slice-write-s
-    drop-targets-requires
+    (λ c κs. search needs)
+    (λ c. search needs)
+    (λ c. search needs)
+    (λ c. search needs)
+    (λ c κs. search needs)
     same-length
     returns
-    same-length-2
+    (λ c. search needs)
     returns-2)

@@ -44,56 +44,17 @@ taken c =
     let t : c .feed .result .taken ≤ length (take (length p - l .at) (drop (l .at) p)) = fed-taken _ _ _ _ _ _ _ (c .feed .ensures) in
     omega (arith, t, length-take (length p - l .at) (drop (l .at) p), length-drop (l .at) p, l .inv .0)
 
-loop-holds : at tie.Need-loop-holds
-loop-holds c = search needs
-
-sub-feed : at tie.Need-sub-feed
-sub-feed c = search needs
-
-part-feed-start : at tie.Need-part-feed-start
-part-feed-start c = search needs
-
-part-feed-end : at tie.Need-part-feed-end
-part-feed-end c = search needs
-
-feed-requires : at tie.Need-feed-requires
-feed-requires c κs = search needs
-
 slice-reshare-prefix-write-all : at tie.Need-slice-reshare-prefix-write-all
 slice-reshare-prefix-write-all c = written (c .before .before)
 
 slice-aggregate-write-all : at tie.Need-slice-aggregate-write-all
 slice-aggregate-write-all c = let f = c .before .before .before in sym (length-take-le (f .feed .result .written) (out-of f) (written f))
 
-write-all-requires : at tie.Need-write-all-requires
-write-all-requires c κs = search needs
-
-same-length : at tie.Need-same-length
-same-length c = search needs
-
-returns : at tie.Need-returns
-returns c = search needs
-
-same-length-2 : at tie.Need-same-length-2
-same-length-2 c = search needs
-
-returns-2 : at tie.Need-returns-2
-returns-2 c = search needs
-
 add-at : at tie.Need-add-at
 add-at c = let f = fed c in omega (arith, taken f, start f .good)
 
-loop-less : at tie.Need-loop-less
-loop-less c = search needs
-
 loop-again : at tie.Need-loop-again
 loop-again c = let f = fed c in (omega (arith, taken f), f .feed .kept .1 .1 .1 .1 .0 ∙ turn f .loop .inv .1)
-
-same-length-3 : at tie.Need-same-length-3
-same-length-3 c = search needs
-
-returns-3 : at tie.Need-returns-3
-returns-3 c = search needs
 
 pub answer-spec : {M : Type 1} → statement M
 answer-spec =
@@ -101,20 +62,20 @@ answer-spec =
     (tie.spec
     Inv-loop
     μ-loop
-    loop-holds
-    sub-feed
-    part-feed-start
-    part-feed-end
-    feed-requires
+    (λ c. search needs)
+    (λ c. search needs)
+    (λ c. search needs)
+    (λ c. search needs)
+    (λ c κs. search needs)
     slice-reshare-prefix-write-all
     slice-aggregate-write-all
-    write-all-requires
-    same-length
-    returns
-    same-length-2
-    returns-2
+    (λ c κs. search needs)
+    (λ c. search needs)
+    (λ c. search needs)
+    (λ c. search needs)
+    (λ c. search needs)
     add-at
-    loop-less
+    (λ c. search needs)
     loop-again
-    same-length-3
-    returns-3)
+    (λ c. search needs)
+    (λ c. search needs))

@@ -13,31 +13,19 @@ use Rattle.sitting.proofs.end.Tie as tie
 written : (c : tie.After-finish) → c .finish .result .written ≤ length (c .finish .last .1 .1 .1 .0)
 written c = let same = c .finish .kept .1 .1 .1 .0 in omega (arith, same, ended-fits _ _ _ _ _ (c .finish .ensures) same)
 
-finish-requires : tie.Need-finish-requires
-finish-requires c κs = search needs
-
 slice-reshare-prefix-write-all : tie.Need-slice-reshare-prefix-write-all
 slice-reshare-prefix-write-all c = written (c .before .before)
 
 slice-aggregate-write-all : tie.Need-slice-aggregate-write-all
 slice-aggregate-write-all c = let f = c .before .before .before in sym (length-take-le (f .finish .result .written) (f .finish .last .1 .1 .1 .0) (written f))
 
-write-all-requires : tie.Need-write-all-requires
-write-all-requires c κs = search needs
-
-same-length : tie.Need-same-length
-same-length c = search needs
-
-returns : tie.Need-returns
-returns c = search needs
-
 pub end-spec : {M : Type 1} → statement M
 end-spec =
     tie.close
     (tie.spec
-    finish-requires
+    (λ c κs. search needs)
     slice-reshare-prefix-write-all
     slice-aggregate-write-all
-    write-all-requires
-    same-length
-    returns)
+    (λ c κs. search needs)
+    (λ c. search needs)
+    (λ c. search needs))

@@ -7,18 +7,6 @@ use borrow.Author.Needs.{needs}
 use Rattle.tickets.proofs.find.Statement.{statement}
 use Rattle.tickets.proofs.find.Tie as tie
 
-seek-requires : tie.Need-seek-requires
-seek-requires c κs = search needs
-
-count-requires : tie.Need-count-requires
-count-requires c κs = search needs
-
-read-requires : tie.Need-read-requires
-read-requires c κs = search needs
-
-unpack-requires : tie.Need-unpack-requires
-unpack-requires c κs = search needs
-
 returns : tie.Need-returns
 returns c =
     let k = c .before .before .before in
@@ -32,4 +20,4 @@ returns-2 c = unfold found-entry in found-none _ _ (search needs) _ _ (c .before
 pub find-spec : {M : Type 1} → statement M
 find-spec =
     tie.close
-    (tie.spec seek-requires count-requires read-requires unpack-requires returns returns-2)
+    (tie.spec (λ c κs. search needs) (λ c κs. search needs) (λ c κs. search needs) (λ c κs. search needs) returns returns-2)

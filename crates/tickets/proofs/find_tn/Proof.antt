@@ -17,38 +17,14 @@ Inv-loop ws tn n i₀ i = (i ≤ n) × (find (has-tn tn) (entries ws) ≡ find (
 abbrev μ-loop : tie.MeasureT-loop
 μ-loop ws tn n i₀ i = n - i
 
-count-requires : tie.Need-count-requires Inv-loop μ-loop
-count-requires c κs = search needs
-
 loop-holds : tie.Need-loop-holds Inv-loop μ-loop
 loop-holds c = (search needs, refl)
-
-add-w : tie.Need-add-w Inv-loop μ-loop
-add-w c = search needs
-
-mul-w : tie.Need-mul-w Inv-loop μ-loop
-mul-w c = search needs
-
-shared-slice-read-w : tie.Need-shared-slice-read-w Inv-loop μ-loop
-shared-slice-read-w c = search needs
-
-tn-requires : tie.Need-tn-requires Inv-loop μ-loop
-tn-requires c κs = search needs
-
-unpack-requires : tie.Need-unpack-requires Inv-loop μ-loop
-unpack-requires c κs = search needs
 
 returns : tie.Need-returns Inv-loop μ-loop
 returns c =
     let t = c .before .before in
     let l = t .before .before .before .loop in
     unfold found-entry in ap some (c .unpack .ensures) ∙ sym (l .inv .1 ∙ first-here _ (l .i) _ (omega arith) (sym (t .tn .ensures) ∙ c .before .if1 .taken))
-
-add-i : tie.Need-add-i Inv-loop μ-loop
-add-i c = search needs
-
-loop-less : tie.Need-loop-less Inv-loop μ-loop
-loop-less c = search needs
 
 loop-again : tie.Need-loop-again Inv-loop μ-loop
 loop-again c =
@@ -65,15 +41,15 @@ find-tn-spec =
     (tie.spec
     Inv-loop
     μ-loop
-    count-requires
+    (λ c κs. search needs)
     loop-holds
-    add-w
-    mul-w
-    shared-slice-read-w
-    tn-requires
-    unpack-requires
+    (λ c. search needs)
+    (λ c. search needs)
+    (λ c. search needs)
+    (λ c κs. search needs)
+    (λ c κs. search needs)
     returns
-    add-i
-    loop-less
+    (λ c. search needs)
+    (λ c. search needs)
     loop-again
     returns-2)

@@ -16,35 +16,14 @@ Inv-loop ws tn n i₀ i = (i ≤ n) × (anyb (has-tn tn) (entries ws) ≡ anyb (
 abbrev μ-loop : tie.MeasureT-loop
 μ-loop ws tn n i₀ i = n - i
 
-count-requires : tie.Need-count-requires Inv-loop μ-loop
-count-requires c κs = search needs
-
 loop-holds : tie.Need-loop-holds Inv-loop μ-loop
 loop-holds c = (search needs, refl)
-
-add-tn : tie.Need-add-tn Inv-loop μ-loop
-add-tn c = search needs
-
-mul-tn : tie.Need-mul-tn Inv-loop μ-loop
-mul-tn c = search needs
-
-shared-slice-read-tn : tie.Need-shared-slice-read-tn Inv-loop μ-loop
-shared-slice-read-tn c = search needs
-
-tn-requires : tie.Need-tn-requires Inv-loop μ-loop
-tn-requires c κs = search needs
 
 returns : tie.Need-returns Inv-loop μ-loop
 returns c =
     let t = c .before in
     let l = t .before .before .before .loop in
     sym (l .inv .1 ∙ has-here _ (l .i) _ (omega arith) (sym (t .tn .ensures) ∙ c .if1 .taken))
-
-add-i : tie.Need-add-i Inv-loop μ-loop
-add-i c = search needs
-
-loop-less : tie.Need-loop-less Inv-loop μ-loop
-loop-less c = search needs
 
 loop-again : tie.Need-loop-again Inv-loop μ-loop
 loop-again c =
@@ -61,14 +40,14 @@ has-tn-spec =
     (tie.spec
     Inv-loop
     μ-loop
-    count-requires
+    (λ c κs. search needs)
     loop-holds
-    add-tn
-    mul-tn
-    shared-slice-read-tn
-    tn-requires
+    (λ c. search needs)
+    (λ c. search needs)
+    (λ c. search needs)
+    (λ c κs. search needs)
     returns
-    add-i
-    loop-less
+    (λ c. search needs)
+    (λ c. search needs)
     loop-again
     returns-2)

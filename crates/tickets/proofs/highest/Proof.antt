@@ -15,38 +15,14 @@ Inv-loop ws height n h₀ i₀ h i = (i ≤ n) × (highest height (entries ws) �
 abbrev μ-loop : tie.MeasureT-loop
 μ-loop ws height n h₀ i₀ h i = n - i
 
-count-requires : tie.Need-count-requires Inv-loop μ-loop
-count-requires c κs = search needs
-
 loop-holds : tie.Need-loop-holds Inv-loop μ-loop
 loop-holds c = (search needs, refl)
-
-add-tn : tie.Need-add-tn Inv-loop μ-loop
-add-tn c = search needs
-
-mul-tn : tie.Need-mul-tn Inv-loop μ-loop
-mul-tn c = search needs
-
-shared-slice-read-tn : tie.Need-shared-slice-read-tn Inv-loop μ-loop
-shared-slice-read-tn c = search needs
-
-tn-requires : tie.Need-tn-requires Inv-loop μ-loop
-tn-requires c κs = search needs
-
-add-i : tie.Need-add-i Inv-loop μ-loop
-add-i c = search needs
-
-loop-less : tie.Need-loop-less Inv-loop μ-loop
-loop-less c = search needs
 
 loop-again : tie.Need-loop-again Inv-loop μ-loop
 loop-again c =
     let t = c .before in
     let l = t .before .before .before .loop in
     (search needs, l .inv .1 ∙ highest-more _ (l .i) (l .h) _ (omega arith) (t .tn .ensures) (c .if1 .taken))
-
-loop-less-2 : tie.Need-loop-less-2 Inv-loop μ-loop
-loop-less-2 c = search needs
 
 loop-again-2 : tie.Need-loop-again-2 Inv-loop μ-loop
 loop-again-2 c =
@@ -63,15 +39,15 @@ highest-spec =
     (tie.spec
     Inv-loop
     μ-loop
-    count-requires
+    (λ c κs. search needs)
     loop-holds
-    add-tn
-    mul-tn
-    shared-slice-read-tn
-    tn-requires
-    add-i
-    loop-less
+    (λ c. search needs)
+    (λ c. search needs)
+    (λ c. search needs)
+    (λ c κs. search needs)
+    (λ c. search needs)
+    (λ c. search needs)
     loop-again
-    loop-less-2
+    (λ c. search needs)
     loop-again-2
     returns)

@@ -19,26 +19,14 @@ returns : tie.Need-returns Inv-loop μ-loop
 unfolding found-hole
 returns c = sym (no-span _ _ _ (c .if1 .taken))
 
-add-n : tie.Need-add-n Inv-loop μ-loop
-add-n c = search needs
-
 loop-holds : tie.Need-loop-holds Inv-loop μ-loop
 loop-holds c = (search needs, hole-start _ _ _ (c .if1 .left))
-
-has-tn-requires : tie.Need-has-tn-requires Inv-loop μ-loop
-has-tn-requires c κs = search needs
 
 returns-2 : tie.Need-returns-2 Inv-loop μ-loop
 unfolding found-hole
 returns-2 c =
     let l = c .before .before .before .loop in
     sym (l .inv .1 ∙ hole-here _ _ _ (omega arith) (sym (c .before .has-tn .ensures) ∙ not-true _ (c .if2 .taken)))
-
-add-n-2 : tie.Need-add-n-2 Inv-loop μ-loop
-add-n-2 c = search needs
-
-loop-less : tie.Need-loop-less Inv-loop μ-loop
-loop-less c = search needs
 
 loop-again : tie.Need-loop-again Inv-loop μ-loop
 loop-again c =
@@ -56,11 +44,11 @@ lowest-hole-spec =
     Inv-loop
     μ-loop
     returns
-    add-n
+    (λ c. search needs)
     loop-holds
-    has-tn-requires
+    (λ c κs. search needs)
     returns-2
-    add-n-2
-    loop-less
+    (λ c. search needs)
+    (λ c. search needs)
     loop-again
     returns-3)

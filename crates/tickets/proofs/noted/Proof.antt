@@ -5,15 +5,9 @@ use borrow.Author.Needs.{needs}
 use Rattle.tickets.proofs.noted.Statement.{statement}
 use Rattle.tickets.proofs.noted.Tie as tie
 
-unpack-requires : tie.Need-unpack-requires
-unpack-requires c κs = search needs
-
-pack-requires : tie.Need-pack-requires
-pack-requires c κs = search needs
-
 returns : tie.Need-returns
 unfolding note-entry
 returns c = c .pack .ensures ∙ fitted-note _ _ (c .before .unpack .ensures)
 
 pub noted-spec : {M : Type 1} → statement M
-noted-spec = tie.close (tie.spec unpack-requires pack-requires returns)
+noted-spec = tie.close (tie.spec (λ c κs. search needs) (λ c κs. search needs) returns)

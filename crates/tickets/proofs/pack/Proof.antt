@@ -5,21 +5,6 @@ use borrow.Author.Needs.{needs}
 use Rattle.tickets.proofs.pack.Statement.{statement}
 use Rattle.tickets.proofs.pack.Tie as tie
 
-bit-requires : tie.Need-bit-requires
-bit-requires c κs = search needs
-
-bit-requires-2 : tie.Need-bit-requires-2
-bit-requires-2 c κs = search needs
-
-mul-flags : tie.Need-mul-flags
-mul-flags c = search needs
-
-add-flags : tie.Need-add-flags
-add-flags c = search needs
-
-pack-requires : tie.Need-pack-requires
-pack-requires c κs = search needs
-
 returns : tie.Need-returns
 returns c =
     let d = c .before in
@@ -30,4 +15,4 @@ returns c =
 
 pub pack-spec : {M : Type 1} → statement M
 pack-spec =
-    tie.close (tie.spec bit-requires bit-requires-2 mul-flags add-flags pack-requires returns)
+    tie.close (tie.spec (λ c κs. search needs) (λ c κs. search needs) (λ c. search needs) (λ c. search needs) (λ c κs. search needs) returns)

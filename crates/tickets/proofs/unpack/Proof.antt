@@ -3,11 +3,8 @@ use borrow.Author.Needs.{needs}
 use Rattle.tickets.proofs.unpack.Statement.{statement}
 use Rattle.tickets.proofs.unpack.Tie as tie
 
-unpack-requires : tie.Need-unpack-requires
-unpack-requires c κs = search needs
-
 returns : tie.Need-returns
 returns c = unfold entry-of as-entry in rw (c .before .before .unpack .ensures)
 
 pub unpack-spec : {M : Type 1} → statement M
-unpack-spec = tie.close (tie.spec unpack-requires returns)
+unpack-spec = tie.close (tie.spec (λ c κs. search needs) returns)

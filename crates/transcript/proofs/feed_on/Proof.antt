@@ -86,64 +86,19 @@ answer-fits : (c : at tie.After-put) → c .put .result ≤ 15
 answer-fits c = omega (arith, c .put .ensures .0, printed-fits (c .before .before .before .before .step-on .result))
 
 -- ---- what is asked
-least-requires : at tie.Need-least-requires
-least-requires c κs = search needs
-
 loop-holds : at tie.Need-loop-holds
 loop-holds c = (search needs, search needs, search needs, search needs, nothing-yet _ _ _)
-
-sub-if1 : at tie.Need-sub-if1
-sub-if1 c = search needs
-
-same-length : at tie.Need-same-length
-same-length c = search needs
-
-same-length-2 : at tie.Need-same-length-2
-same-length-2 c = search needs
-
-same-length-3 : at tie.Need-same-length-3
-same-length-3 c = search needs
 
 returns : at tie.Need-returns
 returns c =
     let l = c .before .loop in
     fed _ _ (opened (c .before)) _ _ _ _ _ _ _ _ (l .inv .4) (no-room _ _ _ _ _ _ _ (l .inv .4) (omega (arith, c .if1 .taken, l .inv .3)))
 
-sub-line-end : at tie.Need-sub-line-end
-sub-line-end c = search needs
-
-part-line-end-start : at tie.Need-part-line-end-start
-part-line-end-start c = search needs
-
-part-line-end-end : at tie.Need-part-line-end-end
-part-line-end-end c = search needs
-
-line-end-requires : at tie.Need-line-end-requires
-line-end-requires c κs = search needs
-
 add-end : at tie.Need-add-end
 add-end c = omega (arith, there c, start (c .before .before .before) .good)
 
-sub-keep : at tie.Need-sub-keep
-sub-keep c = search needs
-
-part-keep-start : at tie.Need-part-keep-start
-part-keep-start c = search needs
-
 part-keep-end : at tie.Need-part-keep-end
 part-keep-end c = there (c .before)
-
-keep-requires : at tie.Need-keep-requires
-keep-requires c κs = search needs
-
-same-length-4 : at tie.Need-same-length-4
-same-length-4 c = search needs
-
-same-length-5 : at tie.Need-same-length-5
-same-length-5 c = search needs
-
-same-length-6 : at tie.Need-same-length-6
-same-length-6 c = search needs
 
 returns-2 : at tie.Need-returns-2
 returns-2 c =
@@ -154,17 +109,8 @@ returns-2 c =
     let inv = fed-stop _ _ _ _ _ _ _ _ (l .inv .4) (roomy (e .before .before)) _ (kept k) _ (is-end e) (c .if2 .taken) in
     fed _ _ (opened p) _ _ _ _ _ _ _ _ inv (at-end _ _ _ _ _ _ _ inv (c .if2 .taken))
 
-slice-reshare-prefix-step-on : at tie.Need-slice-reshare-prefix-step-on
-slice-reshare-prefix-step-on c = search needs
-
 slice-aggregate-step-on : at tie.Need-slice-aggregate-step-on
 slice-aggregate-step-on c = kept-count (kept-place (c .before .before))
-
-step-on-requires : at tie.Need-step-on-requires
-step-on-requires c κs = search needs
-
-put-requires : at tie.Need-put-requires
-put-requires c κs = search needs
 
 add-written : at tie.Need-add-written
 add-written c =
@@ -203,30 +149,30 @@ feed-on-spec =
     (tie.spec
     Inv-loop
     μ-loop
-    least-requires
+    (λ c κs. search needs)
     loop-holds
-    sub-if1
-    same-length
-    same-length-2
-    same-length-3
+    (λ c. search needs)
+    (λ c. search needs)
+    (λ c. search needs)
+    (λ c. search needs)
     returns
-    sub-line-end
-    part-line-end-start
-    part-line-end-end
-    line-end-requires
+    (λ c. search needs)
+    (λ c. search needs)
+    (λ c. search needs)
+    (λ c κs. search needs)
     add-end
-    sub-keep
-    part-keep-start
+    (λ c. search needs)
+    (λ c. search needs)
     part-keep-end
-    keep-requires
-    same-length-4
-    same-length-5
-    same-length-6
+    (λ c κs. search needs)
+    (λ c. search needs)
+    (λ c. search needs)
+    (λ c. search needs)
     returns-2
-    slice-reshare-prefix-step-on
+    (λ c. search needs)
     slice-aggregate-step-on
-    step-on-requires
-    put-requires
+    (λ c κs. search needs)
+    (λ c κs. search needs)
     add-written
     add-taken
     loop-less

@@ -7,21 +7,6 @@ use Rattle.transcript.proofs.finish_on.Tie as tie
 returns : tie.Need-returns
 returns c = ends-empty _ _ _ _ (c .if1 .taken)
 
-slice-aggregate-feed-on : tie.Need-slice-aggregate-feed-on
-slice-aggregate-feed-on c = search needs
-
-feed-on-requires : tie.Need-feed-on-requires
-feed-on-requires c κs = search needs
-
-same-length : tie.Need-same-length
-same-length c = search needs
-
-same-length-2 : tie.Need-same-length-2
-same-length-2 c = search needs
-
-same-length-3 : tie.Need-same-length-3
-same-length-3 c = search needs
-
 returns-2 : tie.Need-returns-2
 returns-2 c =
     let f = c .before .before .before .before .before .before .before in
@@ -29,4 +14,4 @@ returns-2 c =
     ends-begun _ _ (one-begun _ _ _ (e .before .before .before .before .pre .1) (e .if1 .left)) _ _ _ _ (f .feed-on .ensures)
 
 pub finish-on-spec : {M : Type 1} → statement M
-finish-on-spec = tie.close (tie.spec returns slice-aggregate-feed-on feed-on-requires same-length same-length-2 same-length-3 returns-2)
+finish-on-spec = tie.close (tie.spec returns (λ c. search needs) (λ c κs. search needs) (λ c. search needs) (λ c. search needs) (λ c. search needs) returns-2)

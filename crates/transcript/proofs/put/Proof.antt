@@ -15,12 +15,6 @@ Inv-loop out₀ at b n i₀ out i = (i ≤ n) × (n ≤ 15) × (length b ≡ 16)
 abbrev μ-loop : tie.MeasureT-loop
 μ-loop out₀ at b n i₀ out i = n - i
 
-print-requires : tie.Need-print-requires Inv-loop μ-loop
-print-requires c κs = search needs
-
-cast-n : tie.Need-cast-n Inv-loop μ-loop
-cast-n c = search needs
-
 loop-holds : tie.Need-loop-holds Inv-loop μ-loop
 loop-holds c =
     let a = c .before .before .before .before .args in
@@ -28,29 +22,11 @@ loop-holds c =
     let size : length (p .result .bytes) ≡ 16 = search needs in
     (search needs, printed-small (p .result .len) (p .result .bytes) (a .answer) size (p .ensures), size, copy-none (a .out .now) (a .at) (p .result .bytes))
 
-array-read-out : tie.Need-array-read-out Inv-loop μ-loop
-array-read-out c = search needs
-
-add-out : tie.Need-add-out Inv-loop μ-loop
-add-out c = search needs
-
-slice-write-out : tie.Need-slice-write-out Inv-loop μ-loop
-slice-write-out c = search needs
-
-add-i : tie.Need-add-i Inv-loop μ-loop
-add-i c = search needs
-
-loop-less : tie.Need-loop-less Inv-loop μ-loop
-loop-less c = search needs
-
 loop-again : tie.Need-loop-again Inv-loop μ-loop
 loop-again c =
     let a = c .before .before .before .before .before .before .args in
     let l = c .before .loop in
     (search needs, l .inv .1, l .inv .2, copy-one (a .out .now) (a .at) (c .before .before .before .before .print .result .bytes) (l .i) (l .out) 0 (l .inv .3) (search needs) (search needs))
-
-same-length : tie.Need-same-length Inv-loop μ-loop
-same-length c = search needs
 
 returns : tie.Need-returns Inv-loop μ-loop
 returns c =
@@ -66,14 +42,14 @@ put-spec =
     (tie.spec
     Inv-loop
     μ-loop
-    print-requires
-    cast-n
+    (λ c κs. search needs)
+    (λ c. search needs)
     loop-holds
-    array-read-out
-    add-out
-    slice-write-out
-    add-i
-    loop-less
+    (λ c. search needs)
+    (λ c. search needs)
+    (λ c. search needs)
+    (λ c. search needs)
+    (λ c. search needs)
     loop-again
-    same-length
+    (λ c. search needs)
     returns)

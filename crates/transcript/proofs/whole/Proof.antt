@@ -19,12 +19,6 @@ fed c = subst (λ r. Feeding r (start c .args .input .now) (start c .args .out .
 fed-within : (c : tie.After-feed) → c .feed .result .written ≤ length (c .feed .last .1 .1 .1 .1 .0)
 fed-within c = let same = c .feed .kept .1 .1 .1 .1 .0 in omega (arith, same, fed-fits _ _ _ _ _ _ _ (fed c) same)
 
-feed-requires : tie.Need-feed-requires
-feed-requires c κs = search needs
-
-same-length : tie.Need-same-length
-same-length c = search needs
-
 returns : tie.Need-returns
 returns c = whole-short _ _ _ _ _ _ (fed (c .before .before .before .before)) (c .if1 .taken)
 
@@ -34,12 +28,6 @@ sub-finish c = fed-within (c .before .before .before .before .before .before)
 part-finish-start : tie.Need-part-finish-start
 part-finish-start c = fed-within (c .before .before .before .before .before .before)
 
-part-finish-end : tie.Need-part-finish-end
-part-finish-end c = search needs
-
-finish-requires : tie.Need-finish-requires
-finish-requires c κs = search needs
-
 add-t12 : tie.Need-add-t12
 add-t12 c =
     let e = c .before .before .before in
@@ -48,9 +36,6 @@ add-t12 c =
     let out = f .feed .last .1 .1 .1 .1 .0 in
     let g : e .finish .result .written ≤ length (take (length out - w) (drop w out)) = ended-fits _ _ _ _ _ (e .finish .ensures) (e .finish .kept .1 .1 .1 .0) in
     omega (arith, g, fed-within f, length-take (length out - w) (drop w out), f .feed .kept .1 .1 .1 .1 .0, start f .good)
-
-same-length-2 : tie.Need-same-length-2
-same-length-2 c = search needs
 
 returns-2 : tie.Need-returns-2
 returns-2 c =
@@ -63,13 +48,13 @@ pub whole-spec : {M : Type 1} → statement M
 whole-spec =
     tie.close
     (tie.spec
-    feed-requires
-    same-length
+    (λ c κs. search needs)
+    (λ c. search needs)
     returns
     sub-finish
     part-finish-start
-    part-finish-end
-    finish-requires
+    (λ c. search needs)
+    (λ c κs. search needs)
     add-t12
-    same-length-2
+    (λ c. search needs)
     returns-2)

@@ -10,21 +10,6 @@ use Rattle.deliver.specs.View.{effect-of, reply-of}
 use Rattle.deliver.proofs.arrive.ack.Statement.{statement}
 use Rattle.deliver.proofs.arrive.ack.Tie as tie
 
-sub-note : tie.Need-sub-note
-sub-note c = search needs
-
-part-note-start : tie.Need-part-note-start
-part-note-start c = search needs
-
-part-note-end : tie.Need-part-note-end
-part-note-end c = search needs
-
-note-requires : tie.Need-note-requires
-note-requires c κs = search needs
-
-same-length : tie.Need-same-length
-same-length c = search needs
-
 returns : tie.Need-returns
 unfolding effect-of reply-of ack-effect
 returns c =
@@ -35,4 +20,4 @@ returns c =
 
 pub ack-spec : {M : Type 1} → statement M
 ack-spec =
-    tie.close (tie.spec sub-note part-note-start part-note-end note-requires same-length returns)
+    tie.close (tie.spec (λ c. search needs) (λ c. search needs) (λ c. search needs) (λ c κs. search needs) (λ c. search needs) returns)

@@ -12,45 +12,12 @@ use Rattle.deliver.proofs.Tags.{no-unticketed}
 use Rattle.deliver.proofs.arrive.grant_new.Statement.{statement}
 use Rattle.deliver.proofs.arrive.grant_new.Tie as tie
 
-sub-lookup : tie.Need-sub-lookup
-sub-lookup c = search needs
-
-part-lookup-start : tie.Need-part-lookup-start
-part-lookup-start c = search needs
-
-part-lookup-end : tie.Need-part-lookup-end
-part-lookup-end c = search needs
-
-lookup-requires : tie.Need-lookup-requires
-lookup-requires c κs = search needs
-
-enum-known-x : tie.Need-enum-known-x
-enum-known-x c = search needs
-
-same-length : tie.Need-same-length
-same-length c = search needs
-
 returns : tie.Need-returns
 unfolding effect-of reply-of grant-new-effect
 returns c =
     let k = c .before in
     let a = k .before .before .before .before .args in
     dropped _ _ (k .lookup .ensures ∙ ap (λ l. lookup l (a .receiver) (a .sn)) (sym (log-part (a .m .now)))) (no-unticketed _ (c .match .keys2))
-
-sub-set-ticket : tie.Need-sub-set-ticket
-sub-set-ticket c = search needs
-
-part-set-ticket-start : tie.Need-part-set-ticket-start
-part-set-ticket-start c = search needs
-
-part-set-ticket-end : tie.Need-part-set-ticket-end
-part-set-ticket-end c = search needs
-
-set-ticket-requires : tie.Need-set-ticket-requires
-set-ticket-requires c κs = search needs
-
-same-length-2 : tie.Need-same-length-2
-same-length-2 c = search needs
 
 returns-2 : tie.Need-returns-2
 unfolding effect-of reply-of grant-new-effect
@@ -68,16 +35,16 @@ pub grant-new-spec : {M : Type 1} → statement M
 grant-new-spec =
     tie.close
     (tie.spec
-    sub-lookup
-    part-lookup-start
-    part-lookup-end
-    lookup-requires
-    enum-known-x
-    same-length
+    (λ c. search needs)
+    (λ c. search needs)
+    (λ c. search needs)
+    (λ c κs. search needs)
+    (λ c. search needs)
+    (λ c. search needs)
     returns
-    sub-set-ticket
-    part-set-ticket-start
-    part-set-ticket-end
-    set-ticket-requires
-    same-length-2
+    (λ c. search needs)
+    (λ c. search needs)
+    (λ c. search needs)
+    (λ c κs. search needs)
+    (λ c. search needs)
     returns-2)

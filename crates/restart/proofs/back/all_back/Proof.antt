@@ -21,39 +21,6 @@ abbrev μ-loop : tie.MeasureT-loop
 loop-holds : tie.Need-loop-holds Inv-loop μ-loop
 loop-holds c = let a = c .before .before .args in (search needs, search needs, backs-start (view (a .s .now)) (a .p) (a .rows .now))
 
-add-n : tie.Need-add-n Inv-loop μ-loop
-add-n c = search needs
-
-on-requires : tie.Need-on-requires Inv-loop μ-loop
-on-requires c κs = search needs
-
-cast-a : tie.Need-cast-a Inv-loop μ-loop
-cast-a c = search needs
-
-mul-a : tie.Need-mul-a Inv-loop μ-loop
-mul-a c = search needs
-
-add-e : tie.Need-add-e Inv-loop μ-loop
-add-e c = search needs
-
-mul-come-back : tie.Need-mul-come-back Inv-loop μ-loop
-mul-come-back c = search needs
-
-sub-come-back : tie.Need-sub-come-back Inv-loop μ-loop
-sub-come-back c = search needs
-
-part-come-back-start : tie.Need-part-come-back-start Inv-loop μ-loop
-part-come-back-start c = search needs
-
-part-come-back-end : tie.Need-part-come-back-end Inv-loop μ-loop
-part-come-back-end c = search needs
-
-come-back-requires : tie.Need-come-back-requires Inv-loop μ-loop
-come-back-requires c κs = search needs
-
-loop-less : tie.Need-loop-less Inv-loop μ-loop
-loop-less c = search needs
-
 loop-again : tie.Need-loop-again Inv-loop μ-loop
 loop-again c =
     let a = c .before .before .before .before .before .before .before .before .before .before .before .before .args in
@@ -64,9 +31,6 @@ loop-again c =
       loop-more (view (a .s .now)) (a .p) (a .rows .now) (l .s) (l .n) (l .inv .2) (sym (c .before .before .before .before .before .before .on .ensures) ∙ c .before .before .before .before .before .if1 .taken) _ (b .ensures),
     )
 
-loop-less-2 : tie.Need-loop-less-2 Inv-loop μ-loop
-loop-less-2 c = search needs
-
 loop-again-2 : tie.Need-loop-again-2 Inv-loop μ-loop
 loop-again-2 c =
     let a = c .before .before .before .before .before .before .before .args in
@@ -75,9 +39,6 @@ loop-again-2 c =
       search needs,
       loop-skip (view (a .s .now)) (a .p) (a .rows .now) (l .s) (l .n) (l .inv .2) (sym (c .before .on .ensures) ∙ c .if1 .left),
     )
-
-same-length : tie.Need-same-length Inv-loop μ-loop
-same-length c = search needs
 
 returns : tie.Need-returns Inv-loop μ-loop
 returns c =
@@ -93,19 +54,19 @@ all-back-spec =
     Inv-loop
     μ-loop
     loop-holds
-    add-n
-    on-requires
-    cast-a
-    mul-a
-    add-e
-    mul-come-back
-    sub-come-back
-    part-come-back-start
-    part-come-back-end
-    come-back-requires
-    loop-less
+    (λ c. search needs)
+    (λ c κs. search needs)
+    (λ c. search needs)
+    (λ c. search needs)
+    (λ c. search needs)
+    (λ c. search needs)
+    (λ c. search needs)
+    (λ c. search needs)
+    (λ c. search needs)
+    (λ c κs. search needs)
+    (λ c. search needs)
     loop-again
-    loop-less-2
+    (λ c. search needs)
     loop-again-2
-    same-length
+    (λ c. search needs)
     returns)

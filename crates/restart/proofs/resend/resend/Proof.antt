@@ -7,9 +7,6 @@ use borrow.Author.Needs.{needs}
 use Rattle.restart.proofs.resend.resend.Statement.{statement}
 use Rattle.restart.proofs.resend.resend.Tie as tie
 
-on-requires : tie.Need-on-requires
-on-requires c κs = search needs
-
 returns : tie.Need-returns
 returns c =
     let a = c .before .before .before .before .before .args in
@@ -21,16 +18,10 @@ height-back-requires c κs =
     let a = st .args in
     (st .pre .0, on-last (a .s .now) (omega arith) (a .p) (st .pre .1) (a .x .message .receiver) (sym (c .before .before .on .ensures) ∙ c .before .if1 .taken))
 
-from-elsewhere-requires : tie.Need-from-elsewhere-requires
-from-elsewhere-requires c κs = search needs
-
 returns-2 : tie.Need-returns-2
 returns-2 c =
     let a = c .before .before .before .before .before .before .before .args in
     rw (c .before .before .if2 .left) (c .from-elsewhere .ensures ∙ again-in (a .s .now) (a .p) (a .x) (sym (c .before .before .before .before .on .ensures) ∙ c .before .before .before .if1 .taken) _ (c .before .height-back .ensures))
-
-from-here-requires : tie.Need-from-here-requires
-from-here-requires c κs = search needs
 
 returns-3 : tie.Need-returns-3
 returns-3 c =
@@ -46,11 +37,11 @@ pub resend-spec : {M : Type 1} → statement M
 resend-spec =
     tie.close
     (tie.spec
-    on-requires
+    (λ c κs. search needs)
     returns
     height-back-requires
-    from-elsewhere-requires
+    (λ c κs. search needs)
     returns-2
-    from-here-requires
+    (λ c κs. search needs)
     returns-3
     returns-4)

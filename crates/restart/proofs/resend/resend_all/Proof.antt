@@ -25,15 +25,6 @@ abbrev μ-loop : tie.MeasureT-loop
 loop-holds : tie.Need-loop-holds Inv-loop μ-loop
 loop-holds c = (search needs, search needs, rw range-senders)
 
-add-q : tie.Need-add-q Inv-loop μ-loop
-add-q c = search needs
-
-resend-from-requires : tie.Need-resend-from-requires Inv-loop μ-loop
-resend-from-requires c κs = search needs
-
-same-length : tie.Need-same-length Inv-loop μ-loop
-same-length c = search needs
-
 returns : tie.Need-returns Inv-loop μ-loop
 returns c =
     let a = c .before .before .before .before .before .before .before .before .before .args in
@@ -41,9 +32,6 @@ returns c =
     let f = c .before .before .before .resend-from in
     put-stop (all-again (view (a .s .now)) (a .p)) _ (l .wire) _ (l .inv .2)
     (l .q) _ (range-next 13 (l .q) (omega arith)) _ (f .result) (f .ensures) (not-true _ (c .if1 .taken))
-
-loop-less : tie.Need-loop-less Inv-loop μ-loop
-loop-less c = search needs
 
 loop-again : tie.Need-loop-again Inv-loop μ-loop
 loop-again c =
@@ -55,9 +43,6 @@ loop-again c =
       put-on (all-again (view (a .s .now)) (a .p)) _ (l .wire) _ (l .inv .2)
           (l .q) _ (range-next 13 (l .q) (omega arith)) _ (f .result) (f .ensures) (not-false _ (c .if1 .left)),
     )
-
-same-length-2 : tie.Need-same-length-2 Inv-loop μ-loop
-same-length-2 c = search needs
 
 returns-2 : tie.Need-returns-2 Inv-loop μ-loop
 returns-2 c =
@@ -72,11 +57,11 @@ resend-all-spec =
     Inv-loop
     μ-loop
     loop-holds
-    add-q
-    resend-from-requires
-    same-length
+    (λ c. search needs)
+    (λ c κs. search needs)
+    (λ c. search needs)
     returns
-    loop-less
+    (λ c. search needs)
     loop-again
-    same-length-2
+    (λ c. search needs)
     returns-2)

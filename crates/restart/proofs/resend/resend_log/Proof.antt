@@ -23,26 +23,8 @@ Inv-loop s p here l wire₀ n i₀ wire i = (i ≤ n) × (length wire ≡ PACKET
 abbrev μ-loop : tie.MeasureT-loop
 μ-loop s p here l wire₀ n i₀ wire i = n - i
 
-count-requires : tie.Need-count-requires Inv-loop μ-loop
-count-requires c κs = search needs
-
 loop-holds : tie.Need-loop-holds Inv-loop μ-loop
 loop-holds c = (search needs, search needs, refl)
-
-at-requires : tie.Need-at-requires Inv-loop μ-loop
-at-requires c κs = search needs
-
-add-i : tie.Need-add-i Inv-loop μ-loop
-add-i c = search needs
-
-resend-requires : tie.Need-resend-requires Inv-loop μ-loop
-resend-requires c κs = search needs
-
-put-requires : tie.Need-put-requires Inv-loop μ-loop
-put-requires c κs = search needs
-
-same-length : tie.Need-same-length Inv-loop μ-loop
-same-length c = search needs
 
 returns : tie.Need-returns Inv-loop μ-loop
 returns c =
@@ -55,9 +37,6 @@ returns c =
     (x .result) _ (next (messages (a .l .now)) (l .i) (x .result) (logged-of 0) (x .ensures) (omega arith)) (f .last .0) (f .result)
     (put-again (x .result) (logged-fits (a .l .now) (l .i) (x .result) (x .ensures)) (view (a .s .now)) (a .p) (a .here) (o .result) (o .ensures) (packets (l .wire)) _ (f .ensures))
     (not-true _ (c .if1 .taken))
-
-loop-less : tie.Need-loop-less Inv-loop μ-loop
-loop-less c = search needs
 
 loop-again : tie.Need-loop-again Inv-loop μ-loop
 loop-again c =
@@ -74,9 +53,6 @@ loop-again c =
           (not-false _ (c .if1 .left)),
     )
 
-same-length-2 : tie.Need-same-length-2 Inv-loop μ-loop
-same-length-2 c = search needs
-
 returns-2 : tie.Need-returns-2 Inv-loop μ-loop
 returns-2 c =
     let a = c .before .before .before .before .before .before .args in
@@ -89,15 +65,15 @@ resend-log-spec =
     (tie.spec
     Inv-loop
     μ-loop
-    count-requires
+    (λ c κs. search needs)
     loop-holds
-    at-requires
-    add-i
-    resend-requires
-    put-requires
-    same-length
+    (λ c κs. search needs)
+    (λ c. search needs)
+    (λ c κs. search needs)
+    (λ c κs. search needs)
+    (λ c. search needs)
     returns
-    loop-less
+    (λ c. search needs)
     loop-again
-    same-length-2
+    (λ c. search needs)
     returns-2)

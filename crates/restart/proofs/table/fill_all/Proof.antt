@@ -24,51 +24,6 @@ abbrev μ-loop : tie.MeasureT-loop
 loop-holds : tie.Need-loop-holds Inv-loop μ-loop
 loop-holds c = let a = c .before .before .args in (search needs, search needs, refl, rw range-chares)
 
-on-requires : tie.Need-on-requires Inv-loop μ-loop
-on-requires c κs = search needs
-
-cast-i : tie.Need-cast-i Inv-loop μ-loop
-cast-i c = search needs
-
-add-q : tie.Need-add-q Inv-loop μ-loop
-add-q c = search needs
-
-mul-a : tie.Need-mul-a Inv-loop μ-loop
-mul-a c = search needs
-
-add-a : tie.Need-add-a Inv-loop μ-loop
-add-a c = search needs
-
-add-a-2 : tie.Need-add-a-2 Inv-loop μ-loop
-add-a-2 c = search needs
-
-mul-e : tie.Need-mul-e Inv-loop μ-loop
-mul-e c = search needs
-
-add-e : tie.Need-add-e Inv-loop μ-loop
-add-e c = search needs
-
-add-e-2 : tie.Need-add-e-2 Inv-loop μ-loop
-add-e-2 c = search needs
-
-mul-fill-from : tie.Need-mul-fill-from Inv-loop μ-loop
-mul-fill-from c = search needs
-
-sub-fill-from : tie.Need-sub-fill-from Inv-loop μ-loop
-sub-fill-from c = search needs
-
-part-fill-from-start : tie.Need-part-fill-from-start Inv-loop μ-loop
-part-fill-from-start c = search needs
-
-part-fill-from-end : tie.Need-part-fill-from-end Inv-loop μ-loop
-part-fill-from-end c = search needs
-
-fill-from-requires : tie.Need-fill-from-requires Inv-loop μ-loop
-fill-from-requires c κs = search needs
-
-loop-less : tie.Need-loop-less Inv-loop μ-loop
-loop-less c = search needs
-
 loop-again : tie.Need-loop-again Inv-loop μ-loop
 loop-again c =
     let a = c .before .before .before .before .before .before .before .before .before .before .before .args in
@@ -83,9 +38,6 @@ loop-again c =
           (rw (local-here (a .s .now) (a .p) (l .q) (omega arith) here) (f .ensures)),
     )
 
-loop-less-2 : tie.Need-loop-less-2 Inv-loop μ-loop
-loop-less-2 c = search needs
-
 loop-again-2 : tie.Need-loop-again-2 Inv-loop μ-loop
 loop-again-2 c =
     let a = c .before .before .before .before .before .before .args in
@@ -97,9 +49,6 @@ loop-again-2 c =
       fill-skip (a .c) (a .h) (local-log (view (a .s .now)) (a .p)) _ (entries (l .row)) _ (l .inv .3)
           (l .q) _ (range-next 13 (l .q) (omega arith)) (local-there (a .s .now) (a .p) (l .q) there),
     )
-
-same-length : tie.Need-same-length Inv-loop μ-loop
-same-length c = search needs
 
 returns : tie.Need-returns Inv-loop μ-loop
 returns c =
@@ -114,23 +63,23 @@ fill-all-spec =
     Inv-loop
     μ-loop
     loop-holds
-    on-requires
-    cast-i
-    add-q
-    mul-a
-    add-a
-    add-a-2
-    mul-e
-    add-e
-    add-e-2
-    mul-fill-from
-    sub-fill-from
-    part-fill-from-start
-    part-fill-from-end
-    fill-from-requires
-    loop-less
+    (λ c κs. search needs)
+    (λ c. search needs)
+    (λ c. search needs)
+    (λ c. search needs)
+    (λ c. search needs)
+    (λ c. search needs)
+    (λ c. search needs)
+    (λ c. search needs)
+    (λ c. search needs)
+    (λ c. search needs)
+    (λ c. search needs)
+    (λ c. search needs)
+    (λ c. search needs)
+    (λ c κs. search needs)
+    (λ c. search needs)
     loop-again
-    loop-less-2
+    (λ c. search needs)
     loop-again-2
-    same-length
+    (λ c. search needs)
     returns)

@@ -20,23 +20,8 @@ Inv-loop row₀ t n i₀ row i = (i ≤ n) × (length row ≡ ROW) × (entering 
 abbrev μ-loop : tie.MeasureT-loop
 μ-loop row₀ t n i₀ row i = n - i
 
-count-requires : tie.Need-count-requires Inv-loop μ-loop
-count-requires c κs = search needs
-
 loop-holds : tie.Need-loop-holds Inv-loop μ-loop
 loop-holds c = (search needs, search needs, refl)
-
-at-requires : tie.Need-at-requires Inv-loop μ-loop
-at-requires c κs = search needs
-
-add-i : tie.Need-add-i Inv-loop μ-loop
-add-i c = search needs
-
-enter-once-requires : tie.Need-enter-once-requires Inv-loop μ-loop
-enter-once-requires c κs = search needs
-
-same-length : tie.Need-same-length Inv-loop μ-loop
-same-length c = search needs
 
 returns : tie.Need-returns Inv-loop μ-loop
 returns c =
@@ -48,9 +33,6 @@ returns c =
     (x .result) _ (next (entries (a .t .now)) (l .i) (x .result) (entry-of 0) (x .ensures) (omega arith))
     (l .inv .1) _ _ _ (sender-fits (a .t .now) (l .i) (x .result) (x .ensures)) (copied-is (x .result))
     (e .last .0) (e .result) (e .ensures) (not-true _ (c .if1 .taken))
-
-loop-less : tie.Need-loop-less Inv-loop μ-loop
-loop-less c = search needs
 
 loop-again : tie.Need-loop-again Inv-loop μ-loop
 loop-again c =
@@ -66,9 +48,6 @@ loop-again c =
           (e .last .0) (e .result) (e .ensures) (not-false _ (c .if1 .left)),
     )
 
-same-length-2 : tie.Need-same-length-2 Inv-loop μ-loop
-same-length-2 c = search needs
-
 returns-2 : tie.Need-returns-2 Inv-loop μ-loop
 returns-2 c =
     let a = c .before .before .before .before .before .args in
@@ -81,14 +60,14 @@ from-copy-spec =
     (tie.spec
     Inv-loop
     μ-loop
-    count-requires
+    (λ c κs. search needs)
     loop-holds
-    at-requires
-    add-i
-    enter-once-requires
-    same-length
+    (λ c κs. search needs)
+    (λ c. search needs)
+    (λ c κs. search needs)
+    (λ c. search needs)
     returns
-    loop-less
+    (λ c. search needs)
     loop-again
-    same-length-2
+    (λ c. search needs)
     returns-2)

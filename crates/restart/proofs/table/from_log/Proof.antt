@@ -21,26 +21,8 @@ Inv-loop row₀ l c h n i₀ row i = (i ≤ n) × (length row ≡ ROW) × (enter
 abbrev μ-loop : tie.MeasureT-loop
 μ-loop row₀ l c h n i₀ row i = n - i
 
-count-requires : tie.Need-count-requires Inv-loop μ-loop
-count-requires c κs = search needs
-
 loop-holds : tie.Need-loop-holds Inv-loop μ-loop
 loop-holds c = (search needs, search needs, refl)
-
-at-requires : tie.Need-at-requires Inv-loop μ-loop
-at-requires c κs = search needs
-
-add-i : tie.Need-add-i Inv-loop μ-loop
-add-i c = search needs
-
-is-above-requires : tie.Need-is-above-requires Inv-loop μ-loop
-is-above-requires c κs = search needs
-
-enter-once-requires : tie.Need-enter-once-requires Inv-loop μ-loop
-enter-once-requires c κs = search needs
-
-same-length : tie.Need-same-length Inv-loop μ-loop
-same-length c = search needs
 
 returns : tie.Need-returns Inv-loop μ-loop
 returns c =
@@ -52,9 +34,6 @@ returns c =
     (x .result) _ (next (messages (a .l .now)) (l .i) (x .result) (logged-of 0) (x .ensures) (omega arith))
     (l .inv .1) _ _ _ (logged-fits (a .l .now) (l .i) (x .result) (x .ensures) .sender) (logged-in (a .c) (a .h) (x .result) (sym (c .before .before .before .before .before .before .before .is-above .ensures) ∙ c .before .before .before .before .before .before .if1 .taken))
     (e .last .0) (e .result) (e .ensures) (not-true _ (c .if2 .taken))
-
-loop-less : tie.Need-loop-less Inv-loop μ-loop
-loop-less c = search needs
 
 loop-again : tie.Need-loop-again Inv-loop μ-loop
 loop-again c =
@@ -70,9 +49,6 @@ loop-again c =
           (e .last .0) (e .result) (e .ensures) (not-false _ (c .if2 .left)),
     )
 
-loop-less-2 : tie.Need-loop-less-2 Inv-loop μ-loop
-loop-less-2 c = search needs
-
 loop-again-2 : tie.Need-loop-again-2 Inv-loop μ-loop
 loop-again-2 c =
     let a = c .before .before .before .before .before .before .before .before .args in
@@ -83,9 +59,6 @@ loop-again-2 c =
       enter-skip (logged (a .c) (a .h)) _ (l .row) _ (l .inv .2)
           (x .result) _ (next (messages (a .l .now)) (l .i) (x .result) (logged-of 0) (x .ensures) (omega arith)) (logged-out (a .c) (a .h) (x .result) (sym (c .before .is-above .ensures) ∙ c .if1 .left)),
     )
-
-same-length-2 : tie.Need-same-length-2 Inv-loop μ-loop
-same-length-2 c = search needs
 
 returns-2 : tie.Need-returns-2 Inv-loop μ-loop
 returns-2 c =
@@ -99,17 +72,17 @@ from-log-spec =
     (tie.spec
     Inv-loop
     μ-loop
-    count-requires
+    (λ c κs. search needs)
     loop-holds
-    at-requires
-    add-i
-    is-above-requires
-    enter-once-requires
-    same-length
+    (λ c κs. search needs)
+    (λ c. search needs)
+    (λ c κs. search needs)
+    (λ c κs. search needs)
+    (λ c. search needs)
     returns
-    loop-less
+    (λ c. search needs)
     loop-again
-    loop-less-2
+    (λ c. search needs)
     loop-again-2
-    same-length-2
+    (λ c. search needs)
     returns-2)

@@ -25,51 +25,6 @@ abbrev μ-loop : tie.MeasureT-loop
 loop-holds : tie.Need-loop-holds Inv-loop μ-loop
 loop-holds c = let a = c .before .before .args in (search needs, search needs, rw range-senders)
 
-on-requires : tie.Need-on-requires Inv-loop μ-loop
-on-requires c κs = search needs
-
-cast-i : tie.Need-cast-i Inv-loop μ-loop
-cast-i c = search needs
-
-add-q : tie.Need-add-q Inv-loop μ-loop
-add-q c = search needs
-
-mul-a : tie.Need-mul-a Inv-loop μ-loop
-mul-a c = search needs
-
-add-a : tie.Need-add-a Inv-loop μ-loop
-add-a c = search needs
-
-add-a-2 : tie.Need-add-a-2 Inv-loop μ-loop
-add-a-2 c = search needs
-
-mul-e : tie.Need-mul-e Inv-loop μ-loop
-mul-e c = search needs
-
-add-e : tie.Need-add-e Inv-loop μ-loop
-add-e c = search needs
-
-add-e-2 : tie.Need-add-e-2 Inv-loop μ-loop
-add-e-2 c = search needs
-
-mul-from-log : tie.Need-mul-from-log Inv-loop μ-loop
-mul-from-log c = search needs
-
-sub-from-log : tie.Need-sub-from-log Inv-loop μ-loop
-sub-from-log c = search needs
-
-part-from-log-start : tie.Need-part-from-log-start Inv-loop μ-loop
-part-from-log-start c = search needs
-
-part-from-log-end : tie.Need-part-from-log-end Inv-loop μ-loop
-part-from-log-end c = search needs
-
-from-log-requires : tie.Need-from-log-requires Inv-loop μ-loop
-from-log-requires c κs = search needs
-
-same-length : tie.Need-same-length Inv-loop μ-loop
-same-length c = search needs
-
 returns : tie.Need-returns Inv-loop μ-loop
 returns c =
     let a = c .before .before .before .before .before .before .before .before .before .before .before .before .args in
@@ -80,9 +35,6 @@ returns c =
     (l .q) _ (range-next 13 (l .q) (omega arith)) (f .last .0) (f .result)
     (rw (sender-there (a .s .now) (a .p) (l .q) (omega arith) there (a .c) (a .h)) (f .ensures))
     (not-true _ (c .if2 .taken))
-
-loop-less : tie.Need-loop-less Inv-loop μ-loop
-loop-less c = search needs
 
 loop-again : tie.Need-loop-again Inv-loop μ-loop
 loop-again c =
@@ -98,9 +50,6 @@ loop-again c =
           (not-false _ (c .if2 .left)),
     )
 
-loop-less-2 : tie.Need-loop-less-2 Inv-loop μ-loop
-loop-less-2 c = search needs
-
 loop-again-2 : tie.Need-loop-again-2 Inv-loop μ-loop
 loop-again-2 c =
     let a = c .before .before .before .before .before .before .args in
@@ -111,9 +60,6 @@ loop-again-2 c =
       enter-skip (sender-tickets (view (a .s .now)) (a .p) (a .c) (a .h)) _ (l .row) _ (l .inv .2)
           (l .q) _ (range-next 13 (l .q) (omega arith)) (sender-here (a .s .now) (a .p) (l .q) here (a .c) (a .h)),
     )
-
-same-length-2 : tie.Need-same-length-2 Inv-loop μ-loop
-same-length-2 c = search needs
 
 returns-2 : tie.Need-returns-2 Inv-loop μ-loop
 returns-2 c =
@@ -128,25 +74,25 @@ from-logs-spec =
     Inv-loop
     μ-loop
     loop-holds
-    on-requires
-    cast-i
-    add-q
-    mul-a
-    add-a
-    add-a-2
-    mul-e
-    add-e
-    add-e-2
-    mul-from-log
-    sub-from-log
-    part-from-log-start
-    part-from-log-end
-    from-log-requires
-    same-length
+    (λ c κs. search needs)
+    (λ c. search needs)
+    (λ c. search needs)
+    (λ c. search needs)
+    (λ c. search needs)
+    (λ c. search needs)
+    (λ c. search needs)
+    (λ c. search needs)
+    (λ c. search needs)
+    (λ c. search needs)
+    (λ c. search needs)
+    (λ c. search needs)
+    (λ c. search needs)
+    (λ c κs. search needs)
+    (λ c. search needs)
     returns
-    loop-less
+    (λ c. search needs)
     loop-again
-    loop-less-2
+    (λ c. search needs)
     loop-again-2
-    same-length-2
+    (λ c. search needs)
     returns-2)

@@ -21,23 +21,8 @@ Inv-loop row₀ w c h n i₀ row i = (i ≤ n) × (length row ≡ ROW) × (enter
 abbrev μ-loop : tie.MeasureT-loop
 μ-loop row₀ w c h n i₀ row i = n - i
 
-count-requires : tie.Need-count-requires Inv-loop μ-loop
-count-requires c κs = search needs
-
 loop-holds : tie.Need-loop-holds Inv-loop μ-loop
 loop-holds c = (search needs, search needs, refl)
-
-at-requires : tie.Need-at-requires Inv-loop μ-loop
-at-requires c κs = search needs
-
-add-i : tie.Need-add-i Inv-loop μ-loop
-add-i c = search needs
-
-enter-once-requires : tie.Need-enter-once-requires Inv-loop μ-loop
-enter-once-requires c κs = search needs
-
-same-length : tie.Need-same-length Inv-loop μ-loop
-same-length c = search needs
 
 returns : tie.Need-returns Inv-loop μ-loop
 returns c =
@@ -49,9 +34,6 @@ returns c =
     (x .result) _ (next (notes (a .w .now)) (l .i) (x .result) (note-of 0) (x .ensures) (omega arith))
     (l .inv .1) _ _ _ (noted-fits (a .w .now) (l .i) (x .result) (x .ensures) .sender) (noted-in (a .c) (a .h) (x .result) (search needs) (search needs))
     (e .last .0) (e .result) (e .ensures) (not-true _ (c .if3 .taken))
-
-loop-less : tie.Need-loop-less Inv-loop μ-loop
-loop-less c = search needs
 
 loop-again : tie.Need-loop-again Inv-loop μ-loop
 loop-again c =
@@ -67,9 +49,6 @@ loop-again c =
           (e .last .0) (e .result) (e .ensures) (not-false _ (c .if3 .left)),
     )
 
-loop-less-2 : tie.Need-loop-less-2 Inv-loop μ-loop
-loop-less-2 c = search needs
-
 loop-again-2 : tie.Need-loop-again-2 Inv-loop μ-loop
 loop-again-2 c =
     let a = c .before .before .before .before .before .before .before .before .before .before .args in
@@ -81,9 +60,6 @@ loop-again-2 c =
           (x .result) _ (next (notes (a .w .now)) (l .i) (x .result) (note-of 0) (x .ensures) (omega arith)) (noted-below (a .c) (a .h) (x .result) (search needs) (search needs)),
     )
 
-loop-less-3 : tie.Need-loop-less-3 Inv-loop μ-loop
-loop-less-3 c = search needs
-
 loop-again-3 : tie.Need-loop-again-3 Inv-loop μ-loop
 loop-again-3 c =
     let a = c .before .before .before .before .before .before .before .before .args in
@@ -94,9 +70,6 @@ loop-again-3 c =
       enter-skip (noted (a .c) (a .h)) _ (l .row) _ (l .inv .2)
           (x .result) _ (next (notes (a .w .now)) (l .i) (x .result) (note-of 0) (x .ensures) (omega arith)) (noted-other (a .c) (a .h) (x .result) (search needs)),
     )
-
-same-length-2 : tie.Need-same-length-2 Inv-loop μ-loop
-same-length-2 c = search needs
 
 returns-2 : tie.Need-returns-2 Inv-loop μ-loop
 returns-2 c =
@@ -110,18 +83,18 @@ from-notes-spec =
     (tie.spec
     Inv-loop
     μ-loop
-    count-requires
+    (λ c κs. search needs)
     loop-holds
-    at-requires
-    add-i
-    enter-once-requires
-    same-length
+    (λ c κs. search needs)
+    (λ c. search needs)
+    (λ c κs. search needs)
+    (λ c. search needs)
     returns
-    loop-less
+    (λ c. search needs)
     loop-again
-    loop-less-2
+    (λ c. search needs)
     loop-again-2
-    loop-less-3
+    (λ c. search needs)
     loop-again-3
-    same-length-2
+    (λ c. search needs)
     returns-2)

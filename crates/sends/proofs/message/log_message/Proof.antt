@@ -10,32 +10,8 @@ use borrow.Author.Needs.{needs}
 use Rattle.sends.proofs.message.log_message.Statement.{statement}
 use Rattle.sends.proofs.message.log_message.Tie as tie
 
-cast-b : tie.Need-cast-b
-cast-b c = search needs
-
-cast-x : tie.Need-cast-x
-cast-x c = search needs
-
-add-x : tie.Need-add-x
-add-x c = search needs
-
-mul-x : tie.Need-mul-x
-mul-x c = search needs
-
-slice-write-x : tie.Need-slice-write-x
-slice-write-x c = search needs
-
-sub-push : tie.Need-sub-push
-sub-push c = search needs
-
-part-push-start : tie.Need-part-push-start
-part-push-start c = search needs
-
 part-push-end : tie.Need-part-push-end
 part-push-end c = simp length-set (omega arith)
-
-push-requires : tie.Need-push-requires
-push-requires c κs = search needs
 
 same-length : tie.Need-same-length
 same-length c =
@@ -54,14 +30,14 @@ pub log-message-spec : {M : Type 1} → statement M
 log-message-spec =
     tie.close
     (tie.spec
-    cast-b
-    cast-x
-    add-x
-    mul-x
-    slice-write-x
-    sub-push
-    part-push-start
+    (λ c. search needs)
+    (λ c. search needs)
+    (λ c. search needs)
+    (λ c. search needs)
+    (λ c. search needs)
+    (λ c. search needs)
+    (λ c. search needs)
     part-push-end
-    push-requires
+    (λ c κs. search needs)
     same-length
     returns)

@@ -13,12 +13,9 @@ returns-2 : tie.Need-returns-2
 unfolding last-after sn-next
 returns-2 c = let a = c .before .before .args in rw (not-false (a .same) (c .before .if1 .left), le-ltb (a .n) 60000 (c .if2 .taken))
 
-add-result : tie.Need-add-result
-add-result c = search needs
-
 returns-3 : tie.Need-returns-3
 unfolding last-after sn-next
 returns-3 c = let a = c .before .before .args in rw (not-false (a .same) (c .before .if1 .left), lt-ltb (a .n) 60000 (c .if2 .left))
 
 pub last-after-spec : {M : Type 1} → statement M
-last-after-spec = tie.close (tie.spec returns returns-2 add-result returns-3)
+last-after-spec = tie.close (tie.spec returns returns-2 (λ c. search needs) returns-3)

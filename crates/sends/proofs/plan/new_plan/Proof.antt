@@ -11,24 +11,6 @@ use borrow.Author.Needs.{needs}
 use Rattle.sends.proofs.plan.new_plan.Statement.{statement}
 use Rattle.sends.proofs.plan.new_plan.Tie as tie
 
-top-requires : tie.Need-top-requires
-top-requires c κs = search needs
-
-sub-next-tn : tie.Need-sub-next-tn
-sub-next-tn c = search needs
-
-part-next-tn-start : tie.Need-part-next-tn-start
-part-next-tn-start c = search needs
-
-part-next-tn-end : tie.Need-part-next-tn-end
-part-next-tn-end c = search needs
-
-next-tn-requires : tie.Need-next-tn-requires
-next-tn-requires c κs = search needs
-
-idle-requires : tie.Need-idle-requires
-idle-requires c κs = search needs
-
 returns : tie.Need-returns
 returns c =
     let n = c .before .before in
@@ -36,27 +18,6 @@ returns c =
     let a = t .before .before .args in
     unfold new-plan in
     rw (table-part (a .y .now), ← t .top .ensures, lt-leb (next-tn (a .base) (t .top .result) (entries (part TABLE ROW (a .y .now)))) 60000 (omega (arith, n .next-tn .ensures, c .before .if1 .taken))) (c .idle .ensures)
-
-mark-requires : tie.Need-mark-requires
-mark-requires c κs = search needs
-
-sub-count : tie.Need-sub-count
-sub-count c = search needs
-
-part-count-start : tie.Need-part-count-start
-part-count-start c = search needs
-
-part-count-end : tie.Need-part-count-end
-part-count-end c = search needs
-
-count-requires : tie.Need-count-requires
-count-requires c κs = search needs
-
-cast-t19 : tie.Need-cast-t19
-cast-t19 c = search needs
-
-admitted-requires : tie.Need-admitted-requires
-admitted-requires c κs = search needs
 
 add-t21 : tie.Need-add-t21
 add-t21 c =
@@ -78,19 +39,19 @@ pub new-plan-spec : {M : Type 1} → statement M
 new-plan-spec =
     tie.close
     (tie.spec
-    top-requires
-    sub-next-tn
-    part-next-tn-start
-    part-next-tn-end
-    next-tn-requires
-    idle-requires
+    (λ c κs. search needs)
+    (λ c. search needs)
+    (λ c. search needs)
+    (λ c. search needs)
+    (λ c κs. search needs)
+    (λ c κs. search needs)
     returns
-    mark-requires
-    sub-count
-    part-count-start
-    part-count-end
-    count-requires
-    cast-t19
-    admitted-requires
+    (λ c κs. search needs)
+    (λ c. search needs)
+    (λ c. search needs)
+    (λ c. search needs)
+    (λ c κs. search needs)
+    (λ c. search needs)
+    (λ c κs. search needs)
     add-t21
     returns-2)

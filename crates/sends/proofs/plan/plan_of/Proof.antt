@@ -4,36 +4,6 @@ use borrow.Author.Needs.{needs}
 use Rattle.sends.proofs.plan.plan_of.Statement.{statement}
 use Rattle.sends.proofs.plan.plan_of.Tie as tie
 
-is-local-requires : tie.Need-is-local-requires
-is-local-requires c κs = search needs
-
-last-sn-requires : tie.Need-last-sn-requires
-last-sn-requires c κs = search needs
-
-mul-y : tie.Need-mul-y
-mul-y c = search needs
-
-add-y : tie.Need-add-y
-add-y c = search needs
-
-add-e : tie.Need-add-e
-add-e c = search needs
-
-mul-plan-on : tie.Need-mul-plan-on
-mul-plan-on c = search needs
-
-sub-plan-on : tie.Need-sub-plan-on
-sub-plan-on c = search needs
-
-part-plan-on-start : tie.Need-part-plan-on-start
-part-plan-on-start c = search needs
-
-part-plan-on-end : tie.Need-part-plan-on-end
-part-plan-on-end c = search needs
-
-plan-on-requires : tie.Need-plan-on-requires
-plan-on-requires c κs = search needs
-
 returns : tie.Need-returns
 returns c =
     let l = c .before .before in
@@ -45,14 +15,14 @@ pub plan-of-spec : {M : Type 1} → statement M
 plan-of-spec =
     tie.close
     (tie.spec
-    is-local-requires
-    last-sn-requires
-    mul-y
-    add-y
-    add-e
-    mul-plan-on
-    sub-plan-on
-    part-plan-on-start
-    part-plan-on-end
-    plan-on-requires
+    (λ c κs. search needs)
+    (λ c κs. search needs)
+    (λ c. search needs)
+    (λ c. search needs)
+    (λ c. search needs)
+    (λ c. search needs)
+    (λ c. search needs)
+    (λ c. search needs)
+    (λ c. search needs)
+    (λ c κs. search needs)
     returns)

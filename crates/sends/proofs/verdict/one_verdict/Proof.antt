@@ -5,20 +5,8 @@ use borrow.Author.Needs.{needs}
 use Rattle.sends.proofs.verdict.one_verdict.Statement.{statement}
 use Rattle.sends.proofs.verdict.one_verdict.Tie as tie
 
-fits-requires : tie.Need-fits-requires
-fits-requires c κs = search needs
-
-add-answer : tie.Need-add-answer
-add-answer c = search needs
-
-growth-requires : tie.Need-growth-requires
-growth-requires c κs = search needs
-
 add-answer-2 : tie.Need-add-answer-2
 add-answer-2 c = omega (arith, c .growth .ensures, growth-top (c .before .before .args .p .ticket), c .before .before .pre)
-
-answer-requires : tie.Need-answer-requires
-answer-requires c κs = search needs
 
 returns : tie.Need-returns
 unfolding one-verdict
@@ -27,4 +15,4 @@ returns c = rw (c .answer .ensures, c .before .growth .ensures, c .before .befor
 pub one-verdict-spec : {M : Type 1} → statement M
 one-verdict-spec =
     tie.close
-    (tie.spec fits-requires add-answer growth-requires add-answer-2 answer-requires returns)
+    (tie.spec (λ c κs. search needs) (λ c. search needs) (λ c κs. search needs) add-answer-2 (λ c κs. search needs) returns)
