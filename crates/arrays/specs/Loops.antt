@@ -1,12 +1,6 @@
 -- Loops that count: a test put to each number of a range.
-use mathlib.Core.Bool.{Bool, true, false, not, _&&_, _||_}
-use mathlib.Core.List.{List, [], _∷_}
-use mathlib.Core.Path.{_≡_, refl, sym, _∙_}
-use Prim.Native.Nat.{ℕ, zero, suc, _+_, _-_, _<_, _≤_}
-use native.Mathlib.Numerals.{add-one}
-use native.Mathlib.Omega.{arith}
-use Rattle.lists.specs.Lists.{allb, keep}
-use Rattle.lists.specs.Tests.{either}
+use Rattle.lists.specs.Basics.{Bool, true, false, not, _&&_, _||_, List, [], _∷_, _≡_, refl, sym, _∙_, ℕ, zero, suc, _+_, _-_, _<_, _≤_, add-one, arith}
+use Rattle.lists.specs.{Lists.{allb, keep}, Tests.either}
 
 -- the test p passes at n numbers from k on
 unfoldable pub each : (ℕ → Bool) → ℕ → ℕ → Bool

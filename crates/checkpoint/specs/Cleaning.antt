@@ -1,19 +1,11 @@
 -- The loop that cleans the logs at the desk and on machines that are up.
-use mathlib.Core.Path.{_≡_, refl, sym, ap, _∙_}
-use mathlib.Core.Bool.{Bool, true, false}
-use mathlib.Core.List.{List}
-use Prim.Native.Nat.{ℕ, _+_, _<_, _≤_}
-use lib.ListN.{length}
+use Rattle.lists.specs.Basics.{_≡_, refl, sym, ap, _∙_, Bool, true, false, List, ℕ, _+_, _<_, _≤_, length}
 use Rattle.lists.specs.Lists.{keep}
 use Rattle.protocol.specs.Parts.{State, Memory, blank, up, with-live, with-memory}
 use Rattle.words.specs.Part.{part, put}
 use Rattle.head.specs.Head.{job-of, status-of, runs}
-use Rattle.memory.specs.Places.{MEMORY}
-use Rattle.memory.specs.View.{memory-view}
-use Rattle.store.specs.Places.{STORE, live-from}
-use Rattle.store.specs.View.{view}
-use Rattle.store.specs.ViewLaws.{live-changed}
-use Rattle.store.specs.Visits.{visited, visit-none, visit-here, visit-hit, visit-miss, visit-all, live-beyond}
+use Rattle.memory.specs.{Places.MEMORY, View.memory-view}
+use Rattle.store.specs.{Places.{STORE, live-from}, View.view, ViewLaws.live-changed, Visits.{visited, visit-none, visit-here, visit-hit, visit-miss, visit-all, live-beyond}}
 use Rattle.checkpoint.specs.Parts.{cleaned, clean-up}
 
 module _ (limit : ℕ → ℕ) (s : State) where

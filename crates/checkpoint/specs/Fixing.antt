@@ -1,21 +1,12 @@
 -- The loop that prunes the chares of a machine and copies them.
-use mathlib.Core.Path.{_≡_, refl, ap, _∙_, fun-ext}
-use mathlib.Core.Bool.{Bool, true, false, cond}
-use mathlib.Core.List.{List}
-use Prim.Native.Nat.{ℕ, _+_, _<_, _≤_}
-use lib.ListN.{length}
-use Rattle.lists.specs.Lists.{keep}
-use Rattle.lists.specs.Map.{upd-same}
-use Rattle.protocol.specs.Parts.{State, Memory, blank, on, at-home, with-live, with-copies, with-memory}
-use Rattle.protocol.specs.Checkpoint.{pruned, prune, fix-copy}
+use Rattle.lists.specs.Basics.{_≡_, refl, ap, _∙_, fun-ext, Bool, true, false, cond, List, ℕ, _+_, _<_, _≤_, length}
+use Rattle.lists.specs.{Lists.keep, Map.upd-same}
+use Rattle.protocol.specs.{Parts.{State, Memory, blank, on, at-home, with-live, with-copies, with-memory}, Checkpoint.{pruned, prune, fix-copy}}
 use Rattle.words.specs.Part.{part, put}
 use Rattle.head.specs.Head.{job-of}
-use Rattle.memory.specs.Places.{MEMORY}
-use Rattle.memory.specs.View.{memory-view}
-use Rattle.store.specs.Places.{STORE, live-from, copy-from}
-use Rattle.store.specs.View.{view}
-use Rattle.store.specs.ViewLaws.{with-copy, live-changed, live-length, copied}
-use Rattle.store.specs.Visits.{chosen, visited, visit-none, visit-here, visit-hit, visit-miss, visit-all, live-beyond, copy-beyond}
+use Rattle.memory.specs.{Places.MEMORY, View.memory-view}
+use Rattle.store.specs.{Places.{STORE, live-from, copy-from}, View.view, ViewLaws.{with-copy, live-changed, live-length, copied}}
+use Rattle.store.specs.{Visits.{chosen, visited, visit-none, visit-here, visit-hit, visit-miss, visit-all, live-beyond, copy-beyond}}
 use Rattle.checkpoint.specs.Parts.{fixed}
 
 -- chare k is pruned, then copied

@@ -1,21 +1,13 @@
 -- The loop that gathers the heights of a machine's chares: below them a log drops messages.
-use mathlib.Core.Path.{_≡_, sym, ap, _∙_}
-use mathlib.Core.Bool.{true, false}
-use mathlib.Core.List.{List}
-use Prim.Native.Nat.{ℕ, _+_, _<_, _≤_}
-use lib.ListN.{length, set, replicate}
+use Rattle.lists.specs.Basics.{_≡_, sym, ap, _∙_, true, false, List, ℕ, _+_, _<_, _≤_, length, set, replicate}
 use Rattle.lists.specs.Map.{upd}
 use Rattle.arrays.specs.ArrayMap.{as-map, map-set, map-blank}
 use Rattle.protocol.specs.Parts.{State, Memory, blank, on}
 use Rattle.logs.specs.CleanUp.{heights-on}
 use Rattle.words.specs.Part.{part}
 use Rattle.head.specs.Head.{job-of}
-use Rattle.memory.specs.Places.{MEMORY}
-use Rattle.memory.specs.View.{memory-view}
-use Rattle.store.specs.Places.{live-from}
-use Rattle.store.specs.View.{view}
-use Rattle.store.specs.ViewLaws.{live-at}
-use Rattle.store.specs.Visits.{chosen, visited, visit-none, visit-hit, visit-miss, visit-all, live-beyond}
+use Rattle.memory.specs.{Places.MEMORY, View.memory-view}
+use Rattle.store.specs.{Places.live-from, View.view, ViewLaws.live-at, Visits.{chosen, visited, visit-none, visit-hit, visit-miss, visit-all, live-beyond}}
 
 -- the chares below k are done
 unfoldable pub limits-to : State → ℕ → ℕ → ℕ → ℕ

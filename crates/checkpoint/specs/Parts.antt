@@ -1,11 +1,7 @@
 -- The parts of a checkpoint on a whole state.
-use mathlib.Core.Bool.{true}
-use mathlib.Core.List.{[]}
-use Prim.Native.Nat.{ℕ}
-use Rattle.lists.specs.Lists.{keep}
-use Rattle.lists.specs.Map.{upd}
-use Rattle.protocol.specs.Parts.{Memory, State, with-log, with-live, with-copies, up}
-use Rattle.protocol.specs.Checkpoint.{prune, fix-copy}
+use Rattle.lists.specs.Basics.{true, [], ℕ}
+use Rattle.lists.specs.{Lists.keep, Map.upd}
+use Rattle.protocol.specs.{Parts.{Memory, State, with-log, with-live, with-copies, up}, Checkpoint.{prune, fix-copy}}
 use Rattle.logs.specs.Log.{is-kept}
 use Rattle.store.specs.Visits.{chosen}
 

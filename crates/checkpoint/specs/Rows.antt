@@ -1,18 +1,13 @@
 -- A memory whose table is pruned, or whose log is cleaned: ys are the words of that row afterwards.
-use mathlib.Core.Path.{_≡_, _∙_}
-use mathlib.Core.List.{List, map}
-use Prim.Native.Nat.{ℕ}
-use lib.ListN.{length}
+use Rattle.lists.specs.Basics.{_≡_, _∙_, List, map, ℕ, length}
 use Rattle.lists.specs.Lists.{keep}
-use Rattle.protocol.specs.Tickets.{note-entry}
-use Rattle.protocol.specs.Checkpoint.{above-height, pruned}
+use Rattle.protocol.specs.{Tickets.note-entry, Checkpoint.{above-height, pruned}}
 use Rattle.words.specs.Part.{part, put}
 use Rattle.logs.specs.Log.{is-kept}
-use Rattle.memory.specs.Places.{TABLE, LOG, ROW, MEMORY}
-use Rattle.memory.specs.View.{memory-view, table-changed, log-changed}
+use Rattle.memory.specs.{Places.{TABLE, LOG, ROW, MEMORY}, View.{memory-view, table-changed, log-changed}}
+use Rattle.checkpoint.specs.Parts.{cleaned}
 use Rattle.tickets.specs.Table as tickets
 use Rattle.logs.specs.Log as logs
-use Rattle.checkpoint.specs.Parts.{cleaned}
 
 module _ (ws ys : List ℕ) (size : length ws ≡ MEMORY) (long : length ys ≡ ROW) where
   pub prune-is : (h : ℕ) → h ≡ memory-view ws .height → tickets.entries ys ≡ map note-entry (keep (above-height h) (tickets.entries (part TABLE ROW ws))) → memory-view (put TABLE ROW ws ys) ≡ pruned (memory-view ws)

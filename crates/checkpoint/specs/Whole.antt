@@ -1,18 +1,10 @@
 -- The parts of a checkpoint, put together, are the definition's; and its questions as the code puts them.
-use mathlib.Core.Path.{_≡_, refl, ap, _∙_}
-use mathlib.Core.Bool.{Bool, not, _&&_}
-use mathlib.Core.List.{List, [], _∷_}
-use Prim.Native.Nat.{ℕ, _≤_}
+use Rattle.lists.specs.Basics.{_≡_, refl, ap, _∙_, Bool, not, _&&_, List, [], _∷_, ℕ, _≤_}
 use Rattle.lists.specs.Questions.{first-no}
-use Rattle.protocol.specs.Frames.{between}
-use Rattle.protocol.specs.Parts.{State, up}
-use Rattle.protocol.specs.Checkpoint.{prune, fix-copy, clean-log, clean-logs, checkpoint}
-use Rattle.protocol.specs.Questions.{checkpoint-questions, is-machine}
+use Rattle.protocol.specs.{Frames.between, Parts.{State, up}, Checkpoint.{prune, fix-copy, clean-log, clean-logs, checkpoint}, Questions.{checkpoint-questions, is-machine}}
 use Rattle.logs.specs.CleanUp.{heights-on, stays-is-kept}
 use Rattle.head.specs.Head.{job-of, lost-of, status-of, runs}
-use Rattle.store.specs.View.{view}
-use Rattle.store.specs.Visits.{chosen}
-use Rattle.store.specs.Framing.{machine-in}
+use Rattle.store.specs.{View.view, Visits.chosen, Framing.machine-in}
 use Rattle.checkpoint.specs.Parts.{fixed, holding, cleaned, clean-up}
 
 -- cleaned by the heights of p's chares, the logs keep what the definition lets stay

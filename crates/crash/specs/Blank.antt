@@ -1,17 +1,10 @@
 -- A memory whose words are all 0 is blank.
-use mathlib.Core.Path.{_≡_, ap, _∙_}
-use mathlib.Core.List.{List, []}
-use Prim.Native.Nat.{ℕ, _+_, _≤_}
-use lib.ListN.{length, replicate}
+use Rattle.lists.specs.Basics.{_≡_, ap, _∙_, List, [], ℕ, _+_, _≤_, length, replicate}
 use Rattle.arrays.specs.ArrayMap.{map-blank}
 use Rattle.protocol.specs.Parts.{blank}
-use Rattle.window.specs.Bits.{bits}
-use Rattle.window.specs.BitLaws.{no-bits}
-use Rattle.words.specs.Part.{part, part-length}
-use Rattle.words.specs.Rows.{row}
-use Rattle.words.specs.Zeros.{zeros}
-use Rattle.memory.specs.Places.{MEMORY}
-use Rattle.memory.specs.View.{memory-view}
+use Rattle.window.specs.{Bits.bits, BitLaws.no-bits}
+use Rattle.words.specs.{Part.{part, part-length}, Rows.row, Zeros.zeros}
+use Rattle.memory.specs.{Places.MEMORY, View.memory-view}
 use Rattle.tickets.specs.Table as tickets
 use Rattle.logs.specs.Log as logs
 

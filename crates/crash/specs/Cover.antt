@@ -1,11 +1,7 @@
 -- Whether a crash has cover, as the code asks: of the machines in turn, then of the copy.
-use mathlib.Core.Path.{_≡_, refl}
-use mathlib.Core.Bool.{Bool, true, false}
-use mathlib.Core.List.{List}
-use Prim.Native.Nat.{ℕ}
+use Rattle.lists.specs.Basics.{_≡_, refl, Bool, true, false, List, ℕ}
 use Rattle.lists.specs.Lists.{allb}
-use Rattle.protocol.specs.Parts.{State, every-machine}
-use Rattle.protocol.specs.Crash.{is-normal, has-cover}
+use Rattle.protocol.specs.{Parts.{State, every-machine}, Crash.{is-normal, has-cover}}
 use Rattle.arrays.specs.Loops.{each}
 use Rattle.head.specs.Head.{held-of}
 use Rattle.store.specs.View.{view}

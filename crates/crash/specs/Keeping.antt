@@ -1,24 +1,12 @@
 -- The loop that takes the copies and the notes from the machines whose buddy crashes.
-use mathlib.Core.Path.{_≡_, refl, sym, ap, _∙_, fun-ext}
-use mathlib.Core.Bool.{Bool, true, false, cond, not, _&&_}
-use mathlib.Core.Logic.{_≢_}
-use mathlib.Core.List.{List, []}
-use Prim.Native.Nat.{ℕ, _+_, _<_, _≤_}
-use native.Mathlib.Omega.{arith}
-use borrow.Author.Tests.{eq-eqb, ne-eqb}
-use lib.Dec.{eqb}
-use lib.ListN.{length, set}
+use Rattle.lists.specs.Basics.{_≡_, refl, sym, ap, _∙_, fun-ext, Bool, true, false, cond, not, _&&_, _≢_, List, [], ℕ, _+_, _<_, _≤_, arith, eq-eqb, ne-eqb, eqb, length, set}
 use Rattle.lists.specs.Map.{upd}
 use Rattle.arrays.specs.ArrayMap.{map-beyond}
-use Rattle.protocol.specs.declared.Note.{Note}
-use Rattle.protocol.specs.Parts.{State, with-copies}
-use Rattle.protocol.specs.Crash.{kept-by, crash}
+use Rattle.protocol.specs.{declared.Note.Note, Parts.{State, with-copies}, Crash.{kept-by, crash}}
 use Rattle.words.specs.Part.{part, part-length, put}
 use Rattle.head.specs.Head.{HELD, job-of, held-of}
 use Rattle.notelist.specs.Notes.{notes}
-use Rattle.store.specs.Places.{STORE, NOTELIST, notes-from}
-use Rattle.store.specs.View.{view}
-use Rattle.store.specs.Visits.{chosen, visited, visit-none, visit-hit, visit-miss, visit-all, notes-beyond, held-put}
+use Rattle.store.specs.{Places.{STORE, NOTELIST, notes-from}, View.view, Visits.{chosen, visited, visit-none, visit-hit, visit-miss, visit-all, notes-beyond, held-put}}
 
 abbrev no-copy : ℕ → Bool
 no-copy q = false

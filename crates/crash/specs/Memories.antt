@@ -1,22 +1,11 @@
 -- The loops that clear the memories of a machine's chares, and the copies that it keeps.
-use mathlib.Core.Path.{_≡_, refl, sym, ap, _∙_}
-use mathlib.Core.Bool.{Bool, true, false}
-use mathlib.Core.Logic.{_≢_}
-use mathlib.Core.List.{List}
-use Prim.Native.Nat.{ℕ, _+_, _<_, _≤_}
-use native.Mathlib.Omega.{arith}
-use borrow.Author.Tests.{eq-eqb, ne-eqb}
-use lib.Dec.{eqb}
-use lib.ListN.{length, replicate}
-use Rattle.protocol.specs.Parts.{State, Memory, blank, on, at-home, with-live, with-copies, with-memory}
-use Rattle.protocol.specs.Crash.{kept-by, crash}
+use Rattle.lists.specs.Basics.{_≡_, refl, sym, ap, _∙_, Bool, true, false, _≢_, List, ℕ, _+_, _<_, _≤_, arith, eq-eqb, ne-eqb, eqb, length, replicate}
+use Rattle.protocol.specs.{Parts.{State, Memory, blank, on, at-home, with-live, with-copies, with-memory}, Crash.{kept-by, crash}}
 use Rattle.words.specs.Part.{part, put}
 use Rattle.head.specs.Head.{job-of}
 use Rattle.memory.specs.Places.{MEMORY}
-use Rattle.store.specs.Places.{STORE, live-from, copy-from}
-use Rattle.store.specs.View.{view}
-use Rattle.store.specs.ViewLaws.{with-copy, live-put, copy-put}
-use Rattle.store.specs.Visits.{chosen, visited, visit-none, visit-hit, visit-miss, visit-all, live-beyond, copy-beyond}
+use Rattle.store.specs.{Places.{STORE, live-from, copy-from}, View.view, ViewLaws.{with-copy, live-put, copy-put}}
+use Rattle.store.specs.{Visits.{chosen, visited, visit-none, visit-hit, visit-miss, visit-all, live-beyond, copy-beyond}}
 use Rattle.crash.specs.Blank.{cleared}
 
 abbrev gone : ℕ → Memory

@@ -1,26 +1,12 @@
 -- The parts of a crash, put together, are the definition's; its questions as the code puts them; and what the frame leaves.
-use mathlib.Core.Path.{_≡_, refl, ap, _∙_}
-use mathlib.Core.Bool.{Bool, true, false, not}
-use mathlib.Core.List.{List, [], _∷_}
-use Prim.Native.Nat.{ℕ, _+_, _<_, _≤_}
-use native.Mathlib.Omega.{arith}
-use lib.ListN.{length, set}
-use Rattle.lists.specs.Lists.{keep}
-use Rattle.lists.specs.Questions.{first-no, asks}
-use Rattle.protocol.specs.declared.Answer.the-variants.{Accepted, Lost}
-use Rattle.protocol.specs.Frames.{between}
-use Rattle.protocol.specs.Parts.{State, up, with-lost, with-live, with-copies, with-wire}
-use Rattle.protocol.specs.Crash.{has-cover, survives, crash}
-use Rattle.protocol.specs.Questions.{crash-questions, is-machine}
-use Rattle.protocol.specs.Step.{Outcome, judged}
+use Rattle.lists.specs.Basics.{_≡_, refl, ap, _∙_, Bool, true, false, not, List, [], _∷_, ℕ, _+_, _<_, _≤_, arith, length, set}
+use Rattle.lists.specs.{Lists.keep, Questions.{first-no, asks}}
+use Rattle.protocol.specs.{declared.Answer.the-variants.{Accepted, Lost}, Frames.between, Parts.{State, up, with-lost, with-live, with-copies, with-wire}}
+use Rattle.protocol.specs.{Crash.{has-cover, survives, crash}, Questions.{crash-questions, is-machine}, Step.{Outcome, judged}}
 use Rattle.words.specs.Part.{part, put}
-use Rattle.head.specs.Head.{HEAD, STATUS, LOST, job-of, lost-of, status-of, as-status, runs}
-use Rattle.head.specs.Kept.{head-part}
+use Rattle.head.specs.{Head.{HEAD, STATUS, LOST, job-of, lost-of, status-of, as-status, runs}, Kept.head-part}
 use Rattle.packets.specs.Words.{packets}
-use Rattle.store.specs.Places.{STORE, WIRE, PACKETS}
-use Rattle.store.specs.View.{view, outcome, Framed}
-use Rattle.store.specs.ViewLaws.{wire-put, status-set, lost-set}
-use Rattle.store.specs.Framing.{answered, machine-in}
+use Rattle.store.specs.{Places.{STORE, WIRE, PACKETS}, View.{view, outcome, Framed}, ViewLaws.{wire-put, status-set, lost-set}, Framing.{answered, machine-in}}
 
 -- with cover, or without; machines settle later
 unfoldable pub crash-tried : State → ℕ → Bool → Outcome

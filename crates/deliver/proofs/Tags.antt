@@ -1,15 +1,10 @@
 -- What is left of an enum where a pattern did not fit, by the tags of its other variants.
-use mathlib.Core.Path.{_≡_, refl}
-use mathlib.Core.Logic.{_⊎_, inl, inr}
-use mathlib.Core.List.{[], _∷_}
-use Prim.Native.Nat.{ℕ}
-use native.Mathlib.Omega.{arith}
+use Rattle.lists.specs.Basics.{_≡_, refl, _⊎_, inl, inr, [], _∷_, ℕ, arith}
+use Rattle.protocol.specs.{declared.Lookup.Lookup, declared.Lookup.the-variants.{Missing, Ticketed, Unticketed}, declared.Content.Content}
+use Rattle.protocol.specs.{declared.Content.the-variants.Note as NOTE}
 use denote.Enum.Declared.{tagOf}
-use types.Run.{OneOf, miss}
-use Rattle.protocol.specs.declared.Lookup.{Lookup}
-use Rattle.protocol.specs.declared.Lookup.the-variants.{Missing, Ticketed, Unticketed}
-use Rattle.protocol.specs.declared.Content.{Content}
-use Rattle.protocol.specs.declared.Content.the-variants.{Note as NOTE}
+use types.Run.{OneOf}
+use types.Run.{miss}
 use Rattle.protocol.proofs.Lookup as lookup
 use Rattle.protocol.proofs.Content as content
 

@@ -1,24 +1,13 @@
 -- A packet that arrives, in the definitions' state: one memory or one note list changes, and an answer goes to the end of the wire.
-use mathlib.Core.Path.{_≡_, refl, sym, ap}
-use mathlib.Core.Bool.{Bool, true, false}
-use mathlib.Core.List.{List, [], _∷_}
-use mathlib.Core.Option.{Option, some, none}
-use Prim.Native.Nat.{ℕ}
-use Rattle.lists.specs.Tests.{either}
-use Rattle.lists.specs.Map.{upd, upd-self}
-use Rattle.lists.specs.Lists.{remove1}
-use Rattle.protocol.specs.declared.Entry.{Entry}
-use Rattle.protocol.specs.declared.Note.{Note}
-use Rattle.protocol.specs.declared.Packet.{Packet}
-use Rattle.protocol.specs.declared.Content.{Content}
-use Rattle.protocol.specs.declared.Content.the-variants.{Ask as ASK, GrantOld as GRANT-old, GrantReceived as GRANT-received, GrantNew as GRANT-new, Data as DATA, Note as NOTE, Ack as ACK}
-use Rattle.protocol.specs.declared.Lookup.{Lookup}
-use Rattle.protocol.specs.declared.Lookup.the-variants.{Missing, Ticketed, Unticketed}
-use Rattle.protocol.specs.Parts.{State, with-live, with-memory, with-notes, with-log}
-use Rattle.protocol.specs.Packets.{kind, for-receiver, ticketed, is-worked, reply, new-table, new-log, ask, grant-old, grant-received, grant-new, data-in, note, note-of, ack, entry-of, lookup-of, arrive}
-use Rattle.protocol.specs.Questions.{no-entry, is-new, ticket-fits, ticket-admitted, ticket-has-room}
-use Rattle.deliver.specs.Effect.{Effect, quiet, answering, grant-of, new-ticket, new-ticket-questions, no-questions, ask-effect, ask-questions, unticketed, grant-old-effect, grant-received-effect, grant-new-effect, data-effect, ack-effect, effect, effect-questions, place-of}
-use Rattle.deliver.specs.NoteEffect.{note-effect, note-questions}
+use Rattle.lists.specs.Basics.{_≡_, refl, sym, ap, Bool, true, false, List, [], _∷_, Option, some, none, ℕ}
+use Rattle.lists.specs.{Tests.either, Map.{upd, upd-self}, Lists.remove1}
+use Rattle.protocol.specs.{declared.Entry.Entry, declared.Note.Note, declared.Packet.Packet, declared.Content.Content}
+use Rattle.protocol.specs.{declared.Content.the-variants.{Ask as ASK, GrantOld as GRANT-old, GrantReceived as GRANT-received, GrantNew as GRANT-new, Data as DATA, Note as NOTE, Ack as ACK}}
+use Rattle.protocol.specs.{declared.Lookup.Lookup, declared.Lookup.the-variants.{Missing, Ticketed, Unticketed}, Parts.{State, with-live, with-memory, with-notes, with-log}}
+use Rattle.protocol.specs.{Packets.{kind, for-receiver, ticketed, is-worked, reply, new-table, new-log, ask, grant-old, grant-received, grant-new, data-in, note, note-of, ack, entry-of, lookup-of, arrive}}
+use Rattle.protocol.specs.{Questions.{no-entry, is-new, ticket-fits, ticket-admitted, ticket-has-room}}
+use Rattle.deliver.specs.{Effect.{Effect, quiet, answering, grant-of, new-ticket, new-ticket-questions, no-questions, ask-effect, ask-questions, unticketed, grant-old-effect, grant-received-effect, grant-new-effect, data-effect, ack-effect, effect, effect-questions, place-of}}
+use Rattle.deliver.specs.{NoteEffect.{note-effect, note-questions}}
 
 unfoldable pub with-reply : State → Packet → Option Content → State
 with-reply s p none = s

@@ -1,23 +1,10 @@
 -- What each branch of the functions on a memory finds.
-use mathlib.Core.Path.{_≡_}
-use mathlib.Core.Bool.{Bool, true, false}
-use mathlib.Core.Logic.{_⊎_, inl, inr}
-use mathlib.Core.List.{List}
-use mathlib.Core.Option.{Option, some, none}
-use Prim.Native.Nat.{ℕ, _≤_, _<_}
-use borrow.Author.Tests.{le-leb, lt-leb, lt-ltb, le-ltb}
-use lib.ListN.{length}
+use Rattle.lists.specs.Basics.{_≡_, Bool, true, false, _⊎_, inl, inr, List, Option, some, none, ℕ, _≤_, _<_, le-leb, lt-leb, lt-ltb, le-ltb, length}
 use Rattle.lists.specs.Questions.{ok, refuse, asks}
 use Rattle.arrays.specs.Front.{push, push-fits}
-use Rattle.protocol.specs.declared.Message.{Message}
-use Rattle.protocol.specs.declared.Entry.{Entry}
-use Rattle.protocol.specs.declared.Content.the-variants.{GrantOld as GRANT-old, GrantNew as GRANT-new}
-use Rattle.protocol.specs.declared.Lookup.{Lookup}
-use Rattle.protocol.specs.declared.Lookup.the-variants.{Missing, Ticketed, Unticketed}
-use Rattle.protocol.specs.Parts.{Memory, with-table, table-room, most}
-use Rattle.protocol.specs.Window.{Bits, admitted, worked}
-use Rattle.protocol.specs.Packets.{is-worked}
-use Rattle.protocol.specs.Tickets.{next-tn, new-tn, filled, unreceived}
+use Rattle.protocol.specs.{declared.Message.Message, declared.Entry.Entry, declared.Content.the-variants.{GrantOld as GRANT-old, GrantNew as GRANT-new}, declared.Lookup.Lookup}
+use Rattle.protocol.specs.{declared.Lookup.the-variants.{Missing, Ticketed, Unticketed}, Parts.{Memory, with-table, table-room, most}, Window.{Bits, admitted, worked}}
+use Rattle.protocol.specs.{Packets.is-worked, Tickets.{next-tn, new-tn, filled, unreceived}}
 use Rattle.deliver.specs.Effect.{quiet, answering, grant-of, new-ticket, new-ticket-questions, no-questions, ask-effect, ask-questions, unticketed, data-effect}
 
 -- ---- a new ticket

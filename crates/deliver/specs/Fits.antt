@@ -1,25 +1,15 @@
 -- What a memory of any contents sends fits a word, and so does the answer under a packet's own name.
-use mathlib.Core.Path.{_≡_, refl}
-use mathlib.Core.Bool.{Bool, true, false}
-use mathlib.Core.List.{List}
-use mathlib.Core.Option.{Option, some, none}
-use Prim.Native.Nat.{ℕ, _%_, _<_}
-use native.Mathlib.Nat.{mod-eq-of-lt}
+use Rattle.lists.specs.Basics.{_≡_, refl, Bool, true, false, List, Option, some, none, ℕ, _%_, _<_, mod-eq-of-lt}
 use Rattle.lists.specs.Tests.{either}
 use Rattle.protocol.specs.declared.Content.{Content}
-use Rattle.protocol.specs.declared.Content.the-variants.{Ask as ASK, GrantOld as GRANT-old, GrantReceived as GRANT-received, GrantNew as GRANT-new, Data as DATA, Note as NOTE, Ack as ACK}
-use Rattle.protocol.specs.declared.Entry.{Entry}
-use Rattle.protocol.specs.declared.Lookup.{Lookup}
-use Rattle.protocol.specs.declared.Lookup.the-variants.{Missing, Ticketed, Unticketed}
-use Rattle.protocol.specs.declared.Message.{Message}
-use Rattle.protocol.specs.declared.Packet.{Packet}
-use Rattle.protocol.specs.Parts.{Memory}
-use Rattle.protocol.specs.Packets.{lookup}
-use Rattle.logs.specs.Fits as logs
-use Rattle.packets.specs.Words.{fit-content, fitted}
-use Rattle.packets.specs.Fits.{Fits, fits-same}
+use Rattle.protocol.specs.{declared.Content.the-variants.{Ask as ASK, GrantOld as GRANT-old, GrantReceived as GRANT-received, GrantNew as GRANT-new, Data as DATA, Note as NOTE, Ack as ACK}}
+use Rattle.protocol.specs.{declared.Entry.Entry, declared.Lookup.Lookup, declared.Lookup.the-variants.{Missing, Ticketed, Unticketed}, declared.Message.Message}
+use Rattle.protocol.specs.{declared.Packet.Packet, Parts.Memory, Packets.lookup}
+use Rattle.packets.specs.{Words.{fit-content, fitted}, Fits.{Fits, fits-same}}
 use Rattle.memory.specs.View.{memory-view, log-part}
-use Rattle.deliver.specs.Effect.{Effect, effect, ask-effect, grant-of, new-ticket, unticketed, grant-old-effect, grant-received-effect, grant-new-effect, data-effect, ack-effect}
+use Rattle.deliver.specs.Effect.{Effect, effect, ask-effect, grant-of, new-ticket, unticketed, grant-old-effect, grant-received-effect, grant-new-effect, data-effect}
+use Rattle.deliver.specs.Effect.{ack-effect}
+use Rattle.logs.specs.Fits as logs
 
 -- a reply as a word can hold it
 unfoldable pub fit-reply : Option Content → Option Content

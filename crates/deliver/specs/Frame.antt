@@ -1,25 +1,12 @@
 -- Frame 11 as a whole: its questions before the packet is sought, the state after it, and what becomes of a packet found.
-use mathlib.Core.Bool.{Bool, not, _&&_}
-use mathlib.Core.List.{List, [], _∷_}
-use mathlib.Core.Option.{Option, some, none}
-use Prim.Native.Nat.{ℕ, _<_}
-use lib.Dec.{leb}
-use lib.ListN.{length}
+use Rattle.lists.specs.Basics.{Bool, not, _&&_, List, [], _∷_, Option, some, none, ℕ, _<_, leb, length}
 use Rattle.lists.specs.Questions.{asks}
-use Rattle.protocol.specs.declared.Answer.the-variants.{Accepted}
-use Rattle.protocol.specs.declared.Packet.{Packet}
-use Rattle.protocol.specs.declared.Status.{Status}
-use Rattle.protocol.specs.Parts.{Job, State, most, with-wire}
-use Rattle.protocol.specs.Frames.{between}
-use Rattle.protocol.specs.Packets.{destination, deliver, note-of}
-use Rattle.protocol.specs.Step.{Outcome, judged}
+use Rattle.protocol.specs.{declared.Answer.the-variants.Accepted, declared.Packet.Packet, declared.Status.Status, Parts.{Job, State, most, with-wire}, Frames.between}
+use Rattle.protocol.specs.{Packets.{destination, deliver, note-of}, Step.{Outcome, judged}}
 use Rattle.words.specs.Rows.{without}
 use Rattle.head.specs.Head.{runs}
 use Rattle.packets.specs.Fits.{Fits}
-use Rattle.deliver.specs.More.{then}
-use Rattle.deliver.specs.Effect.{effect, effect-questions}
-use Rattle.deliver.specs.NoteEffect.{note-effect, note-questions}
-use Rattle.deliver.specs.Arrival.{put-effect, put-notes}
+use Rattle.deliver.specs.{More.then, Effect.{effect, effect-questions}, NoteEffect.{note-effect, note-questions}, Arrival.{put-effect, put-notes}}
 
 unfoldable pub delivered : State → ℕ → ℕ → ℕ → ℕ → Option Packet → State
 delivered s k a r n none = s

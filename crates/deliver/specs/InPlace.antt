@@ -1,42 +1,20 @@
 -- Frame 11 in place: what its functions leave of the store's parts, put into the store, is what the frame leaves of the state.
-use mathlib.Core.Path.{_≡_, refl, sym, ap, _∙_}
-use mathlib.Core.List.{List, [], _∷_, _++_}
-use Prim.Native.Nat.{ℕ, _<_, _≤_}
-use native.Mathlib.Omega.{arith}
-use lib.ListN.{length}
-use Rattle.lists.specs.Map.{upd}
-use Rattle.lists.specs.Questions.{asks-ok}
+use Rattle.lists.specs.Basics.{_≡_, refl, sym, ap, _∙_, List, [], _∷_, _++_, ℕ, _<_, _≤_, arith, length}
+use Rattle.lists.specs.{Map.upd, Questions.asks-ok}
 use Rattle.arrays.specs.Front.{push-fits}
-use Rattle.protocol.specs.declared.Answer.the-variants.{Accepted, Refused}
-use Rattle.protocol.specs.declared.Packet.{Packet}
-use Rattle.protocol.specs.declared.Content.the-variants.{Ack as ACK}
-use Rattle.protocol.specs.Parts.{State, with-wire, with-memory, with-notes, wire-room}
-use Rattle.protocol.specs.Sending.{put as sent}
-use Rattle.protocol.specs.Packets.{note-of, reply}
-use Rattle.protocol.specs.Step.{Outcome, judged}
-use Rattle.words.specs.Part.{part, put, part-length, part-behind, put-same}
-use Rattle.words.specs.Rows.{without}
+use Rattle.protocol.specs.{declared.Answer.the-variants.{Accepted, Refused}, declared.Packet.Packet, declared.Content.the-variants.Ack as ACK}
+use Rattle.protocol.specs.{Parts.{State, with-wire, with-memory, with-notes, wire-room}, Sending.put as sent, Packets.{note-of, reply}, Step.{Outcome, judged}}
+use Rattle.words.specs.{Part.{part, put, part-length, part-behind, put-same}, Rows.without}
 use Rattle.head.specs.Head.{job-of}
 use Rattle.notelist.specs.Notes.{notes}
-use Rattle.packets.specs.Words.{packets, fit-content}
-use Rattle.packets.specs.Fits.{Fits, packets-fit}
-use Rattle.memory.specs.Places.{MEMORY}
-use Rattle.memory.specs.View.{memory-view}
-use Rattle.store.specs.Places.{NOTELIST, WIRE, PACKETS, STORE, live-from, notes-from}
-use Rattle.store.specs.View.{view, outcome, Framed}
-use Rattle.store.specs.Framing.{accepts}
-use Rattle.store.specs.ViewLaws.{live-at, wire-at, notes-at, live-length, live-put, wire-kept, notes-length, notes-put, wire-put}
-use Rattle.deliver.specs.declared.arrive.Reply.{Reply}
-use Rattle.deliver.specs.declared.arrive.Reply.the-variants.{Nothing, Send}
-use Rattle.deliver.specs.declared.arrive.Arrived.{Arrived}
-use Rattle.deliver.specs.More.{by-number, by-refused, by-none, then}
-use Rattle.deliver.specs.Effect.{effect, effect-questions}
-use Rattle.deliver.specs.NoteEffect.{note-effect, note-questions}
-use Rattle.deliver.specs.Arrival.{with-reply, put-effect, put-notes}
-use Rattle.deliver.specs.View.{reply-of, effect-of, answered, Asked, Arriving}
-use Rattle.deliver.specs.Fits.{fit-reply, reply-fits, answer-fits}
-use Rattle.deliver.specs.Frame.{done, taken-off, Waits, chare-outcome, note-outcome}
-use Rattle.deliver.specs.Named.{one-less}
+use Rattle.packets.specs.{Words.{packets, fit-content}, Fits.{Fits, packets-fit}}
+use Rattle.memory.specs.{Places.MEMORY, View.memory-view}
+use Rattle.store.specs.{Places.{NOTELIST, WIRE, PACKETS, STORE, live-from, notes-from}, View.{view, outcome, Framed}, Framing.accepts}
+use Rattle.store.specs.{ViewLaws.{live-at, wire-at, notes-at, live-length, live-put, wire-kept, notes-length, notes-put, wire-put}}
+use Rattle.deliver.specs.{declared.arrive.Reply.Reply, declared.arrive.Reply.the-variants.{Nothing, Send}, declared.arrive.Arrived.Arrived}
+use Rattle.deliver.specs.{More.{by-number, by-refused, by-none, then}, Effect.{effect, effect-questions}, NoteEffect.{note-effect, note-questions}}
+use Rattle.deliver.specs.{Arrival.{with-reply, put-effect, put-notes}, View.{reply-of, effect-of, answered, Asked, Arriving}, Fits.{fit-reply, reply-fits, answer-fits}}
+use Rattle.deliver.specs.{Frame.{done, taken-off, Waits, chare-outcome, note-outcome}, Named.one-less}
 
 -- ---- a frame's end: the store is as it was, or the frame is accepted
 module _ (xs ys : List ℕ) (o : Outcome) where

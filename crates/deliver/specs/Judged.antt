@@ -1,25 +1,14 @@
 -- Frame 11 judged, in the definitions' state: by its first questions, by the packet found, and by what the packet does.
-use mathlib.Core.Path.{_≡_, refl, sym, ap, _∙_}
-use mathlib.Core.Bool.{Bool}
-use mathlib.Core.List.{List, _++_}
-use mathlib.Core.Option.{some, none}
-use Prim.Native.Nat.{ℕ}
-use Rattle.lists.specs.Lists.{remove1}
-use Rattle.lists.specs.Questions.{asks, first-no, first-no-yes, asks-no, asks-after}
-use Rattle.protocol.specs.declared.Answer.the-variants.{Refused}
-use Rattle.protocol.specs.declared.Packet.{Packet}
-use Rattle.protocol.specs.declared.Content.the-variants.{Note as NOTE}
-use Rattle.protocol.specs.Parts.{State, up}
-use Rattle.protocol.specs.Packets.{is-named, arrive, deliver}
-use Rattle.protocol.specs.Questions.{is-chare, is-sender, on-wire, packet-questions, deliver-questions}
-use Rattle.protocol.specs.Step.{Outcome, judged}
+use Rattle.lists.specs.Basics.{_≡_, refl, sym, ap, _∙_, Bool, List, _++_, some, none, ℕ}
+use Rattle.lists.specs.{Lists.remove1, Questions.{asks, first-no, first-no-yes, asks-no, asks-after}}
+use Rattle.protocol.specs.{declared.Answer.the-variants.Refused, declared.Packet.Packet, declared.Content.the-variants.Note as NOTE, Parts.{State, up}}
+use Rattle.protocol.specs.{Packets.{is-named, arrive, deliver}, Questions.{is-chare, is-sender, on-wire, packet-questions, deliver-questions}, Step.{Outcome, judged}}
 use Rattle.words.specs.Rows.{without}
 use Rattle.head.specs.Head.{runs}
 use Rattle.store.specs.View.{tried}
-use Rattle.deliver.specs.More.{then, asks-then}
-use Rattle.deliver.specs.Effect.{place-of}
-use Rattle.deliver.specs.Arrival.{put-effect, put-notes, ticket-questions, arrive-back, arrive-notes, arrive-questioned, notes-questioned}
-use Rattle.deliver.specs.Frame.{in-range, first-questions, delivered, done, taken-off, chare-outcome, note-outcome}
+use Rattle.deliver.specs.{More.{then, asks-then}, Effect.place-of}
+use Rattle.deliver.specs.{Arrival.{put-effect, put-notes, ticket-questions, arrive-back, arrive-notes, arrive-questioned, notes-questioned}}
+use Rattle.deliver.specs.{Frame.{in-range, first-questions, delivered, done, taken-off, chare-outcome, note-outcome}}
 
 module _ (s : State) (k a r n : ℕ) where
   -- what the contract says of the frame

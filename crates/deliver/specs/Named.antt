@@ -1,24 +1,10 @@
 -- The packet found has the frame's name, so its place is the frame's; and its place on the wire is one of a packet.
-use mathlib.Core.Path.{_≡_, ap, _∙_}
-use mathlib.Core.Bool.{Bool, true, cond}
-use mathlib.Core.List.{List}
-use mathlib.Core.Logic.{⊎-elim}
-use mathlib.Core.Option.{some}
-use Prim.Native.Nat.{ℕ, _≤_, _<_}
-use native.Mathlib.Omega.{arith}
-use borrow.Author.Tests.{eqb-true, leb-true}
-use lib.Dec.{eqb, leb}
-use lib.ListN.{length, length-append, length-take, length-drop}
-use Rattle.lists.specs.Tests.{and-r, and4, split, lt?}
-use Rattle.lists.specs.Lists.{find, remove1}
-use Rattle.protocol.specs.declared.Packet.{Packet}
-use Rattle.protocol.specs.Parts.{Job}
-use Rattle.protocol.specs.Frames.{between}
-use Rattle.protocol.specs.Packets.{kind, is-named}
+use Rattle.lists.specs.Basics.{_≡_, ap, _∙_, Bool, true, cond, List, ⊎-elim, some, ℕ, _≤_, _<_, arith, eqb-true, leb-true, eqb, leb, length, length-append, length-take}
+use Rattle.lists.specs.Basics.{length-drop}
+use Rattle.lists.specs.{Tests.{and-r, and4, split, lt?}, Lists.{find, remove1}}
+use Rattle.protocol.specs.{declared.Packet.Packet, Parts.Job, Frames.between, Packets.{kind, is-named}}
 use Rattle.words.specs.Rows.{without, without-none}
-use Rattle.deliver.specs.More.{remove1-length}
-use Rattle.deliver.specs.Effect.{place-of}
-use Rattle.deliver.specs.Frame.{in-range}
+use Rattle.deliver.specs.{More.remove1-length, Effect.place-of, Frame.in-range}
 
 module _ (k a r n : ℕ) where
   pub place-named : (p : Packet) → is-named k a r n p ≡ true → cond (eqb k 2) a r ≡ place-of p (p .content)

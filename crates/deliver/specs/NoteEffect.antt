@@ -1,16 +1,8 @@
 -- What a NOTE does to the note list that it goes to.
-use mathlib.Core.Path.{_≡_}
-use mathlib.Core.Bool.{Bool, true, false, cond, _||_}
-use mathlib.Core.List.{List, [], _∷_, _++_}
-use Prim.Native.Nat.{_≤_, _<_}
-use borrow.Author.Tests.{lt-ltb, le-ltb}
-use lib.Dec.{ltb}
-use lib.ListN.{length}
+use Rattle.lists.specs.Basics.{_≡_, Bool, true, false, cond, _||_, List, [], _∷_, _++_, _≤_, _<_, lt-ltb, le-ltb, ltb, length}
 use Rattle.lists.specs.Questions.{ok, refuse, asks}
 use Rattle.arrays.specs.Front.{push, push-fits}
-use Rattle.protocol.specs.declared.Note.{Note}
-use Rattle.protocol.specs.Parts.{note-room}
-use Rattle.protocol.specs.Packets.{is-noted}
+use Rattle.protocol.specs.{declared.Note.Note, Parts.note-room, Packets.is-noted}
 
 -- "stored unless present"
 unfoldable pub note-effect : List Note → Note → List Note

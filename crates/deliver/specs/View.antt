@@ -1,22 +1,12 @@
 -- What the answers of this crate's functions mean.
-use mathlib.Core.Path.{_≡_, _∙_}
-use mathlib.Core.Bool.{Bool}
-use mathlib.Core.List.{List}
-use mathlib.Core.Option.{Option, some, none}
-use Prim.Native.Nat.{ℕ, _<_}
-use native.Mathlib.Omega.{arith}
+use Rattle.lists.specs.Basics.{_≡_, _∙_, Bool, List, Option, some, none, ℕ, _<_, arith}
 use Rattle.lists.specs.Questions.{ok, refuse, asks}
 use Rattle.arrays.specs.Front.{push}
-use Rattle.protocol.specs.declared.Content.{Content}
-use Rattle.protocol.specs.declared.Packet.{Packet}
-use Rattle.protocol.specs.Parts.{Memory, wire-room}
+use Rattle.protocol.specs.{declared.Content.Content, declared.Packet.Packet, Parts.{Memory, wire-room}}
 use Rattle.packets.specs.Words.{fitted}
 use Rattle.memory.specs.View.{memory-view}
-use Rattle.deliver.specs.declared.arrive.Reply.{Reply}
-use Rattle.deliver.specs.declared.arrive.Reply.the-variants.{Nothing, Send}
-use Rattle.deliver.specs.declared.arrive.Arrived.{Arrived}
-use Rattle.deliver.specs.More.{by-number, by-none, by-refused}
-use Rattle.deliver.specs.Effect.{Effect, effect, effect-questions, no-questions}
+use Rattle.deliver.specs.{declared.arrive.Reply.Reply, declared.arrive.Reply.the-variants.{Nothing, Send}, declared.arrive.Arrived.Arrived}
+use Rattle.deliver.specs.{More.{by-number, by-none, by-refused}, Effect.{Effect, effect, effect-questions, no-questions}}
 
 unfoldable pub reply-of : Reply → Option Content
 reply-of Nothing = none

@@ -1,34 +1,15 @@
 -- Frame 11 as a whole, in place: refused by its first questions, the packet missing, or found and brought to where it goes.
-use mathlib.Core.Path.{_≡_, refl, sym, ap, _∙_}
-use mathlib.Core.Bool.{true, cond}
-use mathlib.Core.List.{List}
-use mathlib.Core.Option.{some}
-use Prim.Native.Nat.{ℕ, _<_}
-use lib.Dec.{eqb}
-use Rattle.lists.specs.Lists.{find, find-some, remove1}
-use Rattle.lists.specs.Questions.{first-no, first-no-yes}
-use Rattle.protocol.specs.declared.Answer.{Answer}
-use Rattle.protocol.specs.declared.Answer.the-variants.{Refused}
-use Rattle.protocol.specs.declared.Packet.{Packet}
-use Rattle.protocol.specs.declared.Content.the-variants.{Note as NOTE}
-use Rattle.protocol.specs.Packets.{is-named}
-use Rattle.protocol.specs.Questions.{on-wire}
-use Rattle.protocol.specs.Step.{Outcome}
-use Rattle.words.specs.Part.{part}
-use Rattle.words.specs.Rows.{without}
-use Rattle.head.specs.Head.{job-of, lost-of, status-of}
-use Rattle.head.specs.HeadLaws.{chares-top}
-use Rattle.packets.specs.Words.{packets}
-use Rattle.packets.specs.Fits.{sought-fits}
-use Rattle.packets.specs.View.{found, sought, sought-packet, sought-left}
-use Rattle.packets.specs.declared.Found.{Found}
-use Rattle.packets.specs.declared.Found.the-variants.{Nothing as Unfound, At}
-use Rattle.store.specs.Places.{WIRE, PACKETS}
-use Rattle.store.specs.View.{view, Framed}
-use Rattle.store.specs.ViewLaws.{wire-at}
-use Rattle.deliver.specs.Frame.{first-questions, Waits, chare-outcome, note-outcome}
-use Rattle.deliver.specs.Judged.{the-outcome, firsts, refused-first, refused-missing, judged-chare, judged-note}
-use Rattle.deliver.specs.Named.{place-named, place-small, found-inside}
+use Rattle.lists.specs.Basics.{_≡_, refl, sym, ap, _∙_, true, cond, List, some, ℕ, _<_, eqb}
+use Rattle.lists.specs.{Lists.{find, find-some, remove1}, Questions.{first-no, first-no-yes}}
+use Rattle.protocol.specs.{declared.Answer.Answer, declared.Answer.the-variants.Refused, declared.Packet.Packet, declared.Content.the-variants.Note as NOTE, Packets.is-named}
+use Rattle.protocol.specs.{Questions.on-wire, Step.Outcome}
+use Rattle.words.specs.{Part.part, Rows.without}
+use Rattle.head.specs.{Head.{job-of, lost-of, status-of}, HeadLaws.chares-top}
+use Rattle.packets.specs.{Words.packets, Fits.sought-fits, View.{found, sought, sought-packet, sought-left}, declared.Found.Found}
+use Rattle.packets.specs.{declared.Found.the-variants.{Nothing as Unfound, At}}
+use Rattle.store.specs.{Places.{WIRE, PACKETS}, View.{view, Framed}, ViewLaws.wire-at}
+use Rattle.deliver.specs.{Frame.{first-questions, Waits, chare-outcome, note-outcome}}
+use Rattle.deliver.specs.{Judged.{the-outcome, firsts, refused-first, refused-missing, judged-chare, judged-note}, Named.{place-named, place-small, found-inside}}
 use Rattle.deliver.specs.InPlace.{refused}
 
 -- the same outcome, said otherwise

@@ -1,29 +1,21 @@
 -- The frame that the reader answers decides the step: what its crate gives, and then what settles.
-use mathlib.Core.Path.{_≡_, refl, sym, ap, _∙_}
-use mathlib.Core.Option.{some, none}
+use Rattle.lists.specs.Basics.{_≡_, refl, sym, ap, _∙_, some, none}
 use Rattle.lists.specs.Questions.{asks}
-use Rattle.protocol.specs.declared.Answer.the-variants.{Refused}
-use Rattle.protocol.specs.Parts as parts
-use Rattle.protocol.specs.Sending.{send}
-use Rattle.protocol.specs.Working.{next-entry}
-use Rattle.protocol.specs.Checkpoint as checkpoints
-use Rattle.protocol.specs.Crash.{has-cover}
-use Rattle.protocol.specs.Restart as restarts
-use Rattle.protocol.specs.Job.{begin}
-use Rattle.protocol.specs.Frames.{Line, Frame, frame}
-use Rattle.protocol.specs.Questions as questions
-use Rattle.protocol.specs.Step.{Outcome, judged, play, step-frame, step}
-use Rattle.frames.specs.Decode.{decoded}
-use Rattle.frames.specs.Read.{read-as, meaning}
-use Rattle.frames.specs.ReadLaws.{frame-meaning}
-use Rattle.frames.specs.declared.Frame as code
-use Rattle.frames.specs.declared.Frame.the-variants.{Garbled, Job, Inject, Deliver, Work, Checkpoint, Crash, Restart, Show}
+use Rattle.protocol.specs.{declared.Answer.the-variants.Refused, Sending.send, Working.next-entry, Crash.has-cover, Job.begin, Frames.{Line, Frame, frame}}
+use Rattle.protocol.specs.{Step.{Outcome, judged, play, step-frame, step}}
+use Rattle.frames.specs.{Decode.decoded, Read.{read-as, meaning}, ReadLaws.frame-meaning}
+use Rattle.frames.specs.{declared.Frame.the-variants.{Garbled, Job, Inject, Deliver, Work, Checkpoint, Crash, Restart, Show}}
 use Rattle.store.specs.View.{tried}
 use Rattle.settle.specs.Shown.{shown}
 use Rattle.deliver.specs.Frame.{delivered}
 use Rattle.sends.specs.Works.{worked-state}
 use Rattle.crash.specs.Whole.{crash-tried}
 use Rattle.engine.specs.Play.{settles, settle-after, play-job, play-inject, play-deliver, play-work, play-checkpoint, play-crash, play-restart, play-show}
+use Rattle.protocol.specs.Parts as parts
+use Rattle.protocol.specs.Checkpoint as checkpoints
+use Rattle.protocol.specs.Restart as restarts
+use Rattle.protocol.specs.Questions as questions
+use Rattle.frames.specs.declared.Frame as code
 
 -- a frame, before machines settle
 unfoldable pub acted : parts.State → Line → code.Frame → Outcome

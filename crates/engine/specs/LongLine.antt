@@ -1,19 +1,9 @@
 -- No frame has more than 1,023 bytes: a line of more than 2,046 characters is refused with 1.
-use mathlib.Core.Bool.{true, not, _&&_}
-use mathlib.Core.List.{List, [], _∷_}
-use mathlib.Core.Option.{Option, some, none}
-use mathlib.Core.Path.{_≡_, refl, subst}
-use Prim.Native.Nat.{ℕ, zero, suc, _+_, _*_, _-_, _<_, _≤_}
-use native.Mathlib.Omega.{arith}
-use borrow.Author.Tests.{leb-true, eqb-true}
-use lib.Dec.{eqb, leb}
-use lib.ListN.{length, getD}
-use Rattle.lists.specs.Lists.{allb}
-use Rattle.lists.specs.Tests.{either, and-l, and-r}
-use Rattle.protocol.specs.declared.Answer.the-variants.{Refused}
-use Rattle.protocol.specs.Parts.{State}
-use Rattle.protocol.specs.Frames.{Line, between, digit, pair, bytes, least, least-length, exact-length, is-whole, frame-of, frame}
-use Rattle.protocol.specs.Step.{step, step-frame}
+use Rattle.lists.specs.Basics.{true, not, _&&_, List, [], _∷_, Option, some, none, _≡_, refl, subst, ℕ, zero, suc, _+_, _*_, _-_, _<_, _≤_, arith, leb-true, eqb-true, eqb, leb}
+use Rattle.lists.specs.Basics.{length, getD}
+use Rattle.lists.specs.{Lists.allb, Tests.{either, and-l, and-r}}
+use Rattle.protocol.specs.{declared.Answer.the-variants.Refused, Parts.State}
+use Rattle.protocol.specs.{Frames.{Line, between, digit, pair, bytes, least, least-length, exact-length, is-whole, frame-of, frame}, Step.{step, step-frame}}
 
 -- ---- the bytes of a line: half as many as its characters, each below 256
 at-most : (a b x : ℕ) → between a b x ≡ true → x ≤ b

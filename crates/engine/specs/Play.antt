@@ -1,26 +1,16 @@
 -- A frame judged, then machines that have caught up settle: this is the definitions' `play`.
-use mathlib.Core.Path.{_≡_, refl, sym, ap, _∙_}
-use mathlib.Core.Bool.{Bool, true, false, cond}
-use mathlib.Core.List.{List, [], _∷_}
-use mathlib.Core.Option.{Option, some, none}
-use Prim.Native.Nat.{ℕ, suc}
+use Rattle.lists.specs.Basics.{_≡_, refl, sym, ap, _∙_, Bool, true, false, cond, List, [], _∷_, Option, some, none, ℕ, suc}
 use Rattle.lists.specs.Questions.{asks}
-use Rattle.protocol.specs.declared.Answer.{Answer}
-use Rattle.protocol.specs.declared.Answer.the-variants.{Accepted, Shown, Lost, Refused}
-use Rattle.protocol.specs.declared.Entry.{Entry}
-use Rattle.protocol.specs.declared.Packet.{Packet}
+use Rattle.protocol.specs.{declared.Answer.Answer, declared.Answer.the-variants.{Accepted, Shown, Lost, Refused}, declared.Entry.Entry, declared.Packet.Packet, Sending.send}
+use Rattle.protocol.specs.{Working.{next-entry, work-next}, Job.begin, Frames.{job, inject, deliver, work, checkpoint, crash, restart, show}}
+use Rattle.protocol.specs.{Step.{Outcome, accept, crash-outcome, deliver-outcome, work-outcome, outcome, judged, play}}
+use Rattle.store.specs.View.{tried}
 use Rattle.protocol.specs.Parts as parts
-use Rattle.protocol.specs.Sending.{send}
-use Rattle.protocol.specs.Working.{next-entry, work-next}
 use Rattle.protocol.specs.Packets as packets
 use Rattle.protocol.specs.Checkpoint as checkpoints
 use Rattle.protocol.specs.Crash as crashes
 use Rattle.protocol.specs.Restart as restarts
-use Rattle.protocol.specs.Job.{begin}
-use Rattle.protocol.specs.Frames.{job, inject, deliver, work, checkpoint, crash, restart, show}
 use Rattle.protocol.specs.Questions as questions
-use Rattle.protocol.specs.Step.{Outcome, accept, crash-outcome, deliver-outcome, work-outcome, outcome, judged, play}
-use Rattle.store.specs.View.{tried}
 
 -- whoever is done catching up after an accepted frame is done
 unfoldable pub settles : Answer → Bool

@@ -1,18 +1,9 @@
 -- A frame acted in place, then settled: the definitions' step.
-use mathlib.Core.Path.{_≡_, sym, ap, _∙_}
-use mathlib.Core.Bool.{true, false}
-use mathlib.Core.List.{List}
-use Prim.Native.Nat.{ℕ}
-use native.Mathlib.Omega.{arith}
-use Rattle.protocol.specs.declared.Answer.{Answer}
-use Rattle.protocol.specs.Restart.{settle}
-use Rattle.protocol.specs.Frames.{Line, frame}
-use Rattle.protocol.specs.Step.{step}
-use Rattle.frames.specs.Read.{read-as}
-use Rattle.frames.specs.declared.Frame.{Frame}
+use Rattle.lists.specs.Basics.{_≡_, sym, ap, _∙_, true, false, List, ℕ, arith}
+use Rattle.protocol.specs.{declared.Answer.Answer, Restart.settle, Frames.{Line, frame}, Step.step}
+use Rattle.frames.specs.{Read.read-as, declared.Frame.Frame}
 use Rattle.store.specs.View.{view, outcome, Framed}
-use Rattle.engine.specs.Play.{settles, settle-after, settle-yes, settle-no}
-use Rattle.engine.specs.Dispatch.{acted, steps}
+use Rattle.engine.specs.{Play.{settles, settle-after, settle-yes, settle-no}, Dispatch.{acted, steps}}
 
 module _ (xs ys : List ℕ) (l : Line) (f : Frame) (a : Answer) (read : f ≡ read-as (frame l)) (acts : Framed xs ys a (acted (view xs) l f)) where
   settled : settle-after (outcome ys a) ≡ step (view xs) l

@@ -1,17 +1,10 @@
 -- Judging by the sum: characters that are no digits make it too large.
-use mathlib.Core.Bool.{Bool, true, false, _&&_, and-assoc}
-use mathlib.Core.List.{[], _∷_}
-use mathlib.Core.Logic.{_⊎_, inl, inr}
-use mathlib.Core.Option.{Option, some, none}
-use mathlib.Core.Path.{_≡_, refl, _∙_}
-use Prim.Native.Nat.{ℕ, zero, suc, _+_, _*_, _<_, _≤_, _/_, _%_}
-use native.Mathlib.Omega.{arith}
-use lib.ListN.{length, getD, List·getD-eq-default}
+use Rattle.lists.specs.Basics.{Bool, true, false, _&&_, and-assoc, [], _∷_, _⊎_, inl, inr, Option, some, none, _≡_, refl, _∙_, ℕ, zero, suc, _+_, _*_, _<_, _≤_, _/_, _%_, arith}
+use Rattle.lists.specs.Basics.{length, getD, List·getD-eq-default}
 use Rattle.lists.specs.Lists.{allb}
 use Rattle.protocol.specs.Frames.{Line, digit}
-use Rattle.frames.specs.Decode.{or-zero, is-some, digit-value, is-digit, pairs, decoded}
-use Rattle.frames.specs.DigitLaws.{digit-value-small}
-use Rattle.frames.specs.Codes.{no-digit, or-no-digit, digit-code, codes, total}
+use Rattle.frames.specs.{Decode.{or-zero, is-some, digit-value, is-digit, pairs, decoded}, DigitLaws.digit-value-small}
+use Rattle.frames.specs.{Codes.{no-digit, or-no-digit, digit-code, codes, total}}
 
 -- ---- reading: a digit has its value, any other character no-digit in place of 0
 abbrev Coded : Bool → ℕ → ℕ → Type 0

@@ -1,7 +1,5 @@
 -- The characters of a line as the code has them: judged and decoded at once.
-use mathlib.Core.List.{List, [], _∷_}
-use mathlib.Core.Option.{Option, some, none}
-use Prim.Native.Nat.{ℕ, _+_}
+use Rattle.lists.specs.Basics.{List, [], _∷_, Option, some, none, ℕ, _+_}
 use Rattle.protocol.specs.Frames.{Line, digit}
 use Rattle.frames.specs.Decode.{pairs}
 

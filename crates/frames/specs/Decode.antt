@@ -1,10 +1,5 @@
 -- The bytes of a line, read digit by digit: a character that is no digit counts as 0, and a last odd one is left out.
-use mathlib.Core.Bool.{Bool, true, false, _&&_}
-use mathlib.Core.List.{List, [], _∷_}
-use mathlib.Core.Option.{Option, some, none}
-use Prim.Native.Nat.{ℕ, _+_, _*_, _%_}
-use lib.Dec.{eqb}
-use lib.ListN.{length}
+use Rattle.lists.specs.Basics.{Bool, true, false, _&&_, List, [], _∷_, Option, some, none, ℕ, _+_, _*_, _%_, eqb, length}
 use Rattle.lists.specs.Lists.{allb}
 use Rattle.protocol.specs.Frames.{Line, digit}
 

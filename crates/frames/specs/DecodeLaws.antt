@@ -1,12 +1,6 @@
 -- The bytes of a line against those of the rule book: the same wherever the line is hexadecimal, and there are none elsewhere.
-use mathlib.Core.Bool.{Bool, true, false, cond, _&&_}
-use mathlib.Core.List.{List, [], _∷_}
-use mathlib.Core.Option.{Option, some, none}
-use mathlib.Core.Path.{_≡_, refl, _∙_}
-use Prim.Native.Nat.{ℕ, zero, suc, _+_, _*_, _<_, _≤_, _/_, _%_}
-use native.Mathlib.Omega.{arith}
-use lib.Dec.{eqb}
-use lib.ListN.{length, getD, List·getD-eq-default}
+use Rattle.lists.specs.Basics.{Bool, true, false, cond, _&&_, List, [], _∷_, Option, some, none, _≡_, refl, _∙_, ℕ, zero, suc, _+_, _*_, _<_, _≤_, _/_, _%_, arith, eqb, length}
+use Rattle.lists.specs.Basics.{getD, List·getD-eq-default}
 use Rattle.lists.specs.Lists.{allb}
 use Rattle.protocol.specs.Frames.{Line, digit, pair, bytes}
 use Rattle.frames.specs.Decode.{or-zero, is-some, digit-value, is-digit, pairs, decoded, is-hexadecimal}

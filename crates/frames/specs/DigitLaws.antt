@@ -1,11 +1,5 @@
 -- The ranges of the hexadecimal digits.
-use mathlib.Core.Bool.{true, false, and-false}
-use mathlib.Core.Option.{some, none}
-use mathlib.Core.Path.{_≡_}
-use Prim.Native.Nat.{ℕ, _-_, _<_, _≤_}
-use native.Mathlib.Omega.{arith}
-use borrow.Author.Tests.{le-leb, lt-leb, leb-true}
-use lib.Dec.{leb}
+use Rattle.lists.specs.Basics.{true, false, and-false, some, none, _≡_, ℕ, _-_, _<_, _≤_, arith, le-leb, lt-leb, leb-true, leb}
 use Rattle.lists.specs.Tests.{either, and-r}
 use Rattle.protocol.specs.Frames.{between, digit}
 use Rattle.frames.specs.Decode.{or-zero, digit-value}

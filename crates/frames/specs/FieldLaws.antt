@@ -1,16 +1,9 @@
 -- The fields of a frame, from the codes of its line.
-use mathlib.Core.Path.{_≡_}
-use Prim.Native.Nat.{ℕ, _+_, _*_, _<_, _≤_, _/_, _%_}
-use native.Mathlib.Omega.{arith}
-use lib.ListN.{length, getD}
+use Rattle.lists.specs.Basics.{_≡_, ℕ, _+_, _*_, _<_, _≤_, _/_, _%_, arith, length, getD}
 use Rattle.protocol.specs.Frames.{Line, two-bytes, parts}
-use Rattle.frames.specs.Decode.{decoded}
-use Rattle.frames.specs.DecodeLaws.{length-pairs}
-use Rattle.frames.specs.Codes.{no-digit, digit-code, codes}
-use Rattle.frames.specs.CodeLaws.{byte-of}
-use Rattle.frames.specs.KindLaws.{behind-none, behind-parts, sum-one, sum-four, sum-five}
-use Rattle.frames.specs.Read.{read-as, behind-kind}
-use Rattle.frames.specs.declared.Frame.the-variants.{Garbled, Inject, Deliver}
+use Rattle.frames.specs.{Decode.decoded, DecodeLaws.length-pairs, Codes.{no-digit, digit-code, codes}, CodeLaws.byte-of}
+use Rattle.frames.specs.{KindLaws.{behind-none, behind-parts, sum-one, sum-four, sum-five}, Read.{read-as, behind-kind}}
+use Rattle.frames.specs.{declared.Frame.the-variants.{Garbled, Inject, Deliver}}
 
 length-codes : (l : Line) → length (codes l) ≡ length l / 2
 unfolding codes

@@ -1,20 +1,10 @@
 -- A line by its kind's two characters, and by the sum of those behind them.
-use mathlib.Core.Bool.{Bool, true, false, _&&_, and-false, and-assoc}
-use mathlib.Core.List.{List, [], _∷_}
-use mathlib.Core.Option.{none}
-use mathlib.Core.Path.{_≡_, refl, sym, _∙_}
-use Prim.Native.Nat.{ℕ, suc, _+_, _*_, _<_, _≤_, _/_, _%_}
-use native.Mathlib.Omega.{arith}
-use borrow.Author.Tests.{eq-eqb, ne-eqb}
-use lib.Dec.{eqb}
-use lib.ListN.{length, getD, drop, length-drop, drop-of-length-le}
-use lib.Seq.{drop-cons}
+use Rattle.lists.specs.Basics.{Bool, true, false, _&&_, and-false, and-assoc, List, [], _∷_, none, _≡_, refl, sym, _∙_, ℕ, suc, _+_, _*_, _<_, _≤_, _/_, _%_, arith, eq-eqb, ne-eqb}
+use Rattle.lists.specs.Basics.{eqb, length, getD, drop, length-drop, drop-of-length-le, drop-cons}
 use Rattle.lists.specs.Lists.{allb}
 use Rattle.protocol.specs.Frames.{Line, parts}
-use Rattle.frames.specs.Decode.{is-digit, pairs, decoded, is-hexadecimal}
-use Rattle.frames.specs.Codes.{no-digit, codes, total}
-use Rattle.frames.specs.CodeLaws.{Judged, judge, judge-pair, judged-true, judged-small, judged-false}
-use Rattle.frames.specs.Read.{behind-kind}
+use Rattle.frames.specs.{Decode.{is-digit, pairs, decoded, is-hexadecimal}, Codes.{no-digit, codes, total}}
+use Rattle.frames.specs.{CodeLaws.{Judged, judge, judge-pair, judged-true, judged-small, judged-false}, Read.behind-kind}
 
 pub hexadecimal-odd : (l : Line) → (length l % 2 ≡ 0 → ⊥) → is-hexadecimal l ≡ false
 unfolding is-hexadecimal

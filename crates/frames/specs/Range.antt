@@ -1,9 +1,5 @@
 -- A number in a range.
-use mathlib.Core.Bool.{true}
-use mathlib.Core.Path.{_≡_}
-use Prim.Native.Nat.{ℕ, _≤_}
-use borrow.Author.Tests.{leb-true}
-use lib.Dec.{leb}
+use Rattle.lists.specs.Basics.{true, _≡_, ℕ, _≤_, leb-true, leb}
 use Rattle.lists.specs.Tests.{and-l, and-r}
 use Rattle.protocol.specs.Frames.{between}
 

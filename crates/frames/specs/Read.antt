@@ -1,15 +1,9 @@
 -- A frame as the code has it.
-use mathlib.Core.Bool.{cond, _&&_}
-use mathlib.Core.Option.{Option, some, none}
-use mathlib.Core.Path.{_≡_}
-use Prim.Native.Nat.{ℕ, _+_, _*_, _≤_, _/_}
-use lib.Dec.{eqb}
-use lib.ListN.{length, getD, drop}
-use Rattle.protocol.specs.Frames
+use Rattle.lists.specs.Basics.{cond, _&&_, Option, some, none, _≡_, ℕ, _+_, _*_, _≤_, _/_, eqb, length, getD, drop}
 use Rattle.protocol.specs.Frames.{Line, least-length, parts, job, inject, deliver, work, checkpoint, crash, restart, show}
-use Rattle.frames.specs.Decode.{decoded, is-hexadecimal}
-use Rattle.frames.specs.declared.Frame.the-variants.{Garbled, Job, Inject, Deliver, Work, Checkpoint, Crash, Restart, Show}
+use Rattle.frames.specs.{Decode.{decoded, is-hexadecimal}, declared.Frame.the-variants.{Garbled, Job, Inject, Deliver, Work, Checkpoint, Crash, Restart, Show}}
 use Rattle.frames.specs.declared.Frame.{Frame}
+use Rattle.protocol.specs.Frames
 
 -- A job's bytes stay in the line. No frame is Garbled.
 unfoldable pub read-as : Option Frames.Frame → Frame

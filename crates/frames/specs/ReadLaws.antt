@@ -1,26 +1,11 @@
 -- From the digits of a line to its frame.
-use mathlib.Core.Bool.{Bool, true, false, cond, not, _&&_, and-true, and-false}
-use mathlib.Core.List.{List, [], _∷_}
-use mathlib.Core.Logic.{⊎-elim}
-use mathlib.Core.Option.{none}
-use mathlib.Core.Path.{_≡_, refl, sym, _∙_}
-use Prim.Native.Nat.{ℕ, _+_, _*_, _<_, _≤_, _/_, _%_}
-use native.Mathlib.Numerals.{add-one}
-use native.Mathlib.Omega.{arith}
-use borrow.Author.Tests.{le-leb, eq-eqb, ne-eqb}
-use lib.Dec.{eqb, leb}
-use lib.ListN.{length, getD, drop, List·getD-eq-default, drop-of-length-le}
-use lib.Seq.{drop-cons}
-use Rattle.lists.specs.Lists.{allb}
-use Rattle.lists.specs.Tests.{either, lt?, eq?}
+use Rattle.lists.specs.Basics.{Bool, true, false, cond, not, _&&_, and-true, and-false, List, [], _∷_, ⊎-elim, none, _≡_, refl, sym, _∙_, ℕ, _+_, _*_, _<_, _≤_, _/_, _%_, add-one}
+use Rattle.lists.specs.Basics.{arith, le-leb, eq-eqb, ne-eqb, eqb, leb, length, getD, drop, List·getD-eq-default, drop-of-length-le, drop-cons}
+use Rattle.lists.specs.{Lists.allb, Tests.{either, lt?, eq?}}
 use Rattle.protocol.specs.Frames.{Line, bytes, least, least-length, exact-length, is-whole, parts, frame, frame-of}
-use Rattle.frames.specs.Decode.{decoded, is-hexadecimal}
-use Rattle.frames.specs.DecodeLaws.{length-decoded, bytes-decoded}
-use Rattle.frames.specs.Codes.{no-digit, codes}
-use Rattle.frames.specs.CodeLaws.{decoded-codes}
-use Rattle.frames.specs.KindLaws.{hexadecimal-odd, kind-digits, kind-small, kind-no-digit}
-use Rattle.frames.specs.Read.{read-as, meaning, job-as, behind-kind, Sized}
-use Rattle.frames.specs.declared.Frame.the-variants.{Garbled, Job}
+use Rattle.frames.specs.{Decode.{decoded, is-hexadecimal}, DecodeLaws.{length-decoded, bytes-decoded}, Codes.{no-digit, codes}, CodeLaws.decoded-codes}
+use Rattle.frames.specs.{KindLaws.{hexadecimal-odd, kind-digits, kind-small, kind-no-digit}, Read.{read-as, meaning, job-as, behind-kind, Sized}}
+use Rattle.frames.specs.{declared.Frame.the-variants.{Garbled, Job}}
 
 -- ---- a loop over the characters: those before i are digits
 module _ (p : ℕ → Bool) (l : List ℕ) (i : ℕ) (a : Bool) (inv : a ≡ allb p (drop i l)) where

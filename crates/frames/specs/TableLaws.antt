@@ -1,11 +1,5 @@
 -- The table of least lengths, checked entry by entry.
-use mathlib.Core.Bool.{Bool, true, _&&_, _||_}
-use mathlib.Core.Logic.{⊎-elim}
-use mathlib.Core.Path.{_≡_, refl}
-use Prim.Native.Nat.{ℕ, zero, suc, _<_, _≤_}
-use native.Mathlib.Omega.{arith}
-use borrow.Author.Tests.{leb-true, ltb-true, eqb-true, ne-eqb}
-use lib.Dec.{eqb, leb, ltb}
+use Rattle.lists.specs.Basics.{Bool, true, _&&_, _||_, ⊎-elim, _≡_, refl, ℕ, zero, suc, _<_, _≤_, arith, leb-true, ltb-true, eqb-true, ne-eqb, eqb, leb, ltb}
 use Rattle.lists.specs.Tests.{eq?, and-l, and-r}
 use Rattle.protocol.specs.Frames.{least, least-length}
 use Rattle.frames.specs.Read.{Sized}

@@ -1,14 +1,6 @@
 -- What an array of a job's numbers says at an index.
-use mathlib.Core.Bool.{Bool, true, false, cond}
-use mathlib.Core.List.{List}
-use mathlib.Core.Logic.{⊎-elim}
-use mathlib.Core.Path.{_≡_, refl, sym, ap, _∙_}
-use Prim.Native.Nat.{ℕ, _+_, _<_, _≤_, min}
-use native.Mathlib.Omega.{arith}
-use borrow.Author.Tests.{ne-eqb}
-use lib.Dec.{eqb}
-use lib.ListN.{length, getD, set, replicate, List·getD-eq-default}
-use lib.Seq.{getD-set-same, getD-set-other}
+use Rattle.lists.specs.Basics.{Bool, true, false, cond, List, ⊎-elim, _≡_, refl, sym, ap, _∙_, ℕ, _+_, _<_, _≤_, min, arith, ne-eqb, eqb, length, getD, set, replicate}
+use Rattle.lists.specs.Basics.{List·getD-eq-default, getD-set-same, getD-set-other}
 use Rattle.lists.specs.Tests.{eq?, lt?, split}
 use Rattle.arrays.specs.ArrayMap.{as-map}
 use Rattle.words.specs.Zeros.{zero-at}

@@ -1,15 +1,8 @@
 -- The head of the store: job, statuses, copies held, targets, one word each. Any contents count: a number out of range counts as the
 -- largest in range.
-use mathlib.Core.Bool.{Bool, cond, not, _||_}
-use mathlib.Core.List.{List, [], _∷_}
-use Prim.Native.Nat.{ℕ, _+_, min}
-use lib.Dec.{eqb}
-use lib.ListN.{getD}
+use Rattle.lists.specs.Basics.{Bool, cond, not, _||_, List, [], _∷_, ℕ, _+_, min, eqb, getD}
 use Rattle.arrays.specs.ArrayMap.{as-map}
-use Rattle.protocol.specs.declared.Status.{Status}
-use Rattle.protocol.specs.declared.Status.the-variants.{Up, Down, CatchingUp}
-use Rattle.protocol.specs.Frames.{between}
-use Rattle.protocol.specs.Parts.{Job, is-down}
+use Rattle.protocol.specs.{declared.Status.Status, declared.Status.the-variants.{Up, Down, CatchingUp}, Frames.between, Parts.{Job, is-down}}
 use Rattle.words.specs.Part.{part}
 
 -- where each part begins: the constants of src/, under the same names

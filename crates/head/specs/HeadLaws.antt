@@ -1,23 +1,12 @@
 -- What holds of every head, and what the branches of the code find.
-use mathlib.Core.Bool.{Bool, true, not}
-use mathlib.Core.List.{List, [], _∷_}
-use mathlib.Core.Path.{_≡_, refl, sym, _∙_}
-use Prim.Native.Nat.{ℕ, _+_, _<_, _≤_, min}
-use native.Mathlib.Omega.{arith}
-use native.Mathlib.Numerals.{add-one}
-use borrow.Author.Tests.{eqb-true, ne-eqb}
-use lib.Dec.{eqb}
-use lib.ListN.{length, getD, set, take}
-use lib.Seq.{take-suc, take-suc-set, take-all}
-use Rattle.lists.specs.Tests.{either}
-use Rattle.lists.specs.Questions.{first-no}
+use Rattle.lists.specs.Basics.{Bool, true, not, List, [], _∷_, _≡_, refl, sym, _∙_, ℕ, _+_, _<_, _≤_, min, arith, add-one, eqb-true, ne-eqb, eqb, length, getD, set, take, take-suc}
+use Rattle.lists.specs.Basics.{take-suc-set, take-all}
+use Rattle.lists.specs.{Tests.either, Questions.first-no}
 use Rattle.arrays.specs.ArrayMap.{as-map, map-beyond}
-use Rattle.protocol.specs.declared.Status.{Status}
-use Rattle.protocol.specs.Frames.{between}
-use Rattle.protocol.specs.Parts.{Job, is-down}
+use Rattle.protocol.specs.{declared.Status.Status, Frames.between, Parts.{Job, is-down}}
 use Rattle.words.specs.Part.{part, part-at, part-length}
-use Rattle.head.specs.Head.{SET, LOST, MACHINES, CHARES, BUDDY, STATUS, HOME, FIRST, SECOND, HEAD, cell, job-of, lost-of, as-status, status-of, runs, chare-asked}
-use Rattle.head.specs.Cells.{cell-end, cell-top}
+use Rattle.head.specs.{Head.{SET, LOST, MACHINES, CHARES, BUDDY, STATUS, HOME, FIRST, SECOND, HEAD, cell, job-of, lost-of, as-status, status-of, runs, chare-asked}}
+use Rattle.head.specs.{Cells.{cell-end, cell-top}}
 
 pub job-is : (h : List ℕ) (j : Job)
     → eqb (getD (part 0 4 h) 0 0) 1 ≡ j .set

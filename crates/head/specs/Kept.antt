@@ -1,13 +1,6 @@
 -- A head is what its first words say: the store changed behind them, put anew there, or cut off after them.
-use mathlib.Core.Bool.{Bool}
-use mathlib.Core.List.{List, [], _∷_}
-use mathlib.Core.Path.{_≡_, refl, sym, ap, fun-ext, _∙_}
-use Prim.Native.Nat.{ℕ, zero, suc, _+_, _≤_}
-use native.Mathlib.Omega.{arith}
-use lib.ListN.{length}
-use lib.Seq.{take-take, take-all}
-use Rattle.protocol.specs.declared.Status.{Status}
-use Rattle.protocol.specs.Parts.{Job}
+use Rattle.lists.specs.Basics.{Bool, List, [], _∷_, _≡_, refl, sym, ap, fun-ext, _∙_, ℕ, zero, suc, _+_, _≤_, arith, length, take-take, take-all}
+use Rattle.protocol.specs.{declared.Status.Status, Parts.Job}
 use Rattle.words.specs.Part.{part, put, part-put, part-before}
 use Rattle.head.specs.Head.{HEAD, BUDDY, STATUS, HELD, HOME, FIRST, SECOND, TARGET, job-of, lost-of, status-of, held-of, target-of}
 

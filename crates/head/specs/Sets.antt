@@ -1,17 +1,9 @@
 -- One word of a head set: the part that has it says so, the others say what they said.
-use mathlib.Core.List.{List}
-use mathlib.Core.Path.{_≡_, sym, ap, fun-ext, _∙_}
-use Prim.Native.Nat.{ℕ, _+_, _<_, _≤_}
-use native.Mathlib.Omega.{arith}
-use lib.Dec.{eqb}
-use lib.ListN.{length, getD, set}
-use lib.Seq.{getD-set-same, getD-set-other}
+use Rattle.lists.specs.Basics.{List, _≡_, sym, ap, fun-ext, _∙_, ℕ, _+_, _<_, _≤_, arith, eqb, length, getD, set, getD-set-same, getD-set-other}
 use Rattle.lists.specs.Map.{upd, upd-ind}
 use Rattle.arrays.specs.ArrayMap.{as-map}
-use Rattle.words.specs.Part.{part, part-length}
-use Rattle.head.specs.Head.{HEAD, LOST, BUDDY, STATUS, HELD, HOME, FIRST, SECOND, TARGET, job-of, lost-of, as-status, status-of, held-of, target-of}
-use Rattle.head.specs.Kept.{Says}
-use Rattle.words.specs.PartSet.{part-set, part-set-before, part-apart}
+use Rattle.words.specs.{Part.{part, part-length}, PartSet.{part-set, part-set-before, part-apart}}
+use Rattle.head.specs.{Head.{HEAD, LOST, BUDDY, STATUS, HELD, HOME, FIRST, SECOND, TARGET, job-of, lost-of, as-status, status-of, held-of, target-of}, Kept.Says}
 
 -- the store's other parts
 pub behind-set : (b j : ℕ) (xs : List ℕ) (i w : ℕ) → i < HEAD → HEAD ≤ b → part b j (set xs i w) ≡ part b j xs

@@ -1,13 +1,7 @@
 -- A word as an item, and an item as a word. A field is what stands above its place value, modulo the number of its values.
-use mathlib.Core.Path.{_≡_, sym, _∙_}
-use mathlib.Core.Bool.{_&&_}
-use Prim.Native.Nat.{ℕ, _+_, _*_, _/_, _%_, _<_}
-use native.Mathlib.Omega.{arith}
-use borrow.Author.Tests.{eqb-true, eq-eqb}
-use lib.Dec.{eqb}
+use Rattle.lists.specs.Basics.{_≡_, sym, _∙_, _&&_, ℕ, _+_, _*_, _/_, _%_, _<_, arith, eqb-true, eq-eqb, eqb}
 use Rattle.lists.specs.Tests.{either, and-l, and-r}
-use Rattle.words.specs.Fields.{low, field}
-use Rattle.words.specs.Rows.{PEER, OWNER, named}
+use Rattle.words.specs.{Fields.{low, field}, Rows.{PEER, OWNER, named}}
 use Rattle.item.specs.declared.Item.{Item}
 
 -- the place values

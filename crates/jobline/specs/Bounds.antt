@@ -1,17 +1,9 @@
 -- No number of a job in range is above its bound.
-use mathlib.Core.Bool.{Bool, true, cond, not, _&&_}
-use mathlib.Core.List.{List}
-use mathlib.Core.Path.{_≡_}
-use Prim.Native.Nat.{ℕ, _-_, _≤_}
-use native.Mathlib.Omega.{arith}
-use borrow.Author.Tests.{leb-true}
-use lib.Dec.{eqb, leb}
+use Rattle.lists.specs.Basics.{Bool, true, cond, not, _&&_, List, _≡_, ℕ, _-_, _≤_, arith, leb-true, eqb, leb}
 use Rattle.lists.specs.Tests.{split, and-l, and-r}
-use Rattle.protocol.specs.Frames.{between}
-use Rattle.protocol.specs.Job.{machines-of, chares-of, buddy-byte, chare-byte, buddy-in-range, chare-in-range, job-of, has-machine, has-chare, previous-machine}
+use Rattle.protocol.specs.{Frames.between, Job.{machines-of, chares-of, buddy-byte, chare-byte, buddy-in-range, chare-in-range, job-of, has-machine, has-chare, previous-machine}}
 use Rattle.frames.specs.Range.{Between, between-true}
-use Rattle.jobline.specs.JobLaws.{InRange}
-use Rattle.jobline.specs.Passes.{number-of}
+use Rattle.jobline.specs.{JobLaws.InRange, Passes.number-of}
 
 module _ (b : List ℕ) (r : InRange b) where
   previous-top : (p : ℕ) → Between 1 (machines-of b) p → previous-machine (machines-of b) p ≤ 6

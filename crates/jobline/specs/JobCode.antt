@@ -1,17 +1,9 @@
 -- What each branch of the code that reads a job line finds: b are the line's bytes, and m, n the machines and chares that it names.
-use mathlib.Core.Bool.{true, false, cond, not, _&&_}
-use mathlib.Core.List.{List}
-use mathlib.Core.Logic.{inl, inr}
-use mathlib.Core.Path.{_≡_, sym, _∙_}
-use Prim.Native.Nat.{ℕ, _-_, _<_, _≤_}
-use borrow.Author.Tests.{le-leb, lt-leb, eq-eqb, ne-eqb}
-use lib.Dec.{eqb, leb}
-use lib.ListN.{getD}
-use Rattle.lists.specs.Lists.{allb}
-use Rattle.lists.specs.Tests.{eq?}
+use Rattle.lists.specs.Basics.{true, false, cond, not, _&&_, List, inl, inr, _≡_, sym, _∙_, ℕ, _-_, _<_, _≤_, le-leb, lt-leb, eq-eqb, ne-eqb, eqb, leb, getD}
+use Rattle.lists.specs.{Lists.allb, Tests.eq?}
 use Rattle.protocol.specs.Frames.{between}
-use Rattle.protocol.specs.Job.{machines-of, chares-of, buddy-byte, chare-byte, buddy-in-range, chare-in-range, job-in-range, job-of, has-machine, has-chare, previous-machine}
-use Rattle.protocol.specs.Parts.{every-machine, every-chare}
+use Rattle.protocol.specs.{Job.{machines-of, chares-of, buddy-byte, chare-byte, buddy-in-range, chare-in-range, job-in-range, job-of, has-machine, has-chare, previous-machine}}
+use Rattle.protocol.specs.{Parts.{every-machine, every-chare}}
 use Rattle.frames.specs.DigitLaws.{between-in, between-low, between-high}
 use Rattle.arrays.specs.Loops.{each, allb-keep}
 use Rattle.jobline.specs.Passes.{buddies-in-range, chares-in-range, buddy-passes, chare-passes, number-of}

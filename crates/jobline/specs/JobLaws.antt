@@ -1,18 +1,8 @@
 -- What the range of a job says, number by number.
-use mathlib.Core.Bool.{true, _&&_}
-use mathlib.Core.List.{List, [], _∷_, List·Memᴰ·head as here, List·Memᴰ·tail as there}
-use mathlib.Core.Logic.{⊎-elim}
-use mathlib.Core.Path.{_≡_}
-use Prim.Native.Nat.{ℕ, zero, suc, _+_, _<_, _≤_}
-use native.Mathlib.Omega.{arith}
-use borrow.Author.Tests.{le-leb}
-use lib.Dec.{leb}
-use Rattle.lists.specs.Lists.{_∈_, allb, allb-true, keep, mem-keep}
-use Rattle.lists.specs.Tests.{lt?, and-l, and-r}
-use Rattle.protocol.specs.Frames.{between}
+use Rattle.lists.specs.Basics.{true, _&&_, List, [], _∷_, here, there, ⊎-elim, _≡_, ℕ, zero, suc, _+_, _<_, _≤_, arith, le-leb, leb}
+use Rattle.lists.specs.{Lists.{_∈_, allb, allb-true, keep, mem-keep}, Tests.{lt?, and-l, and-r}}
+use Rattle.protocol.specs.{Frames.between, Job.{machines-of, chares-of, buddy-in-range, chare-in-range, job-in-range}, Parts.{every-machine, every-chare}}
 use Rattle.frames.specs.Range.{Between, between-true}
-use Rattle.protocol.specs.Job.{machines-of, chares-of, buddy-in-range, chare-in-range, job-in-range}
-use Rattle.protocol.specs.Parts.{every-machine, every-chare}
 
 -- ---- every number from 1 on is in the list
 from-one : (n k : ℕ) → List ℕ

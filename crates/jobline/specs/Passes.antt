@@ -1,11 +1,7 @@
 -- The numbers of a job's line: which are in range, and those of a chare.
-use mathlib.Core.Bool.{Bool, cond, not, _||_}
-use mathlib.Core.List.{List}
-use Prim.Native.Nat.{ℕ}
-use lib.Dec.{leb}
+use Rattle.lists.specs.Basics.{Bool, cond, not, _||_, List, ℕ, leb}
 use Rattle.lists.specs.Lists.{allb, keep}
-use Rattle.protocol.specs.Job.{machines-of, chares-of, buddy-in-range, chare-in-range, has-chare, chare-byte}
-use Rattle.protocol.specs.Parts.{every-machine, every-chare}
+use Rattle.protocol.specs.{Job.{machines-of, chares-of, buddy-in-range, chare-in-range, has-chare, chare-byte}, Parts.{every-machine, every-chare}}
 
 -- the two halves of a job's range
 unfoldable pub buddies-in-range : List ℕ → Bool

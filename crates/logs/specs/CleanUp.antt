@@ -1,19 +1,8 @@
 -- The clean-up of a log at a checkpoint: its test, against the rule book's and by the limits in hand, and the row sifted in place.
-use mathlib.Core.Path.{_≡_, refl, _∙_, fun-ext}
-use mathlib.Core.Bool.{Bool, true, false, cond, not, _&&_}
-use mathlib.Core.List.{List, [], _∷_, map}
-use Prim.Native.Nat.{ℕ, _≤_, _<_}
-use native.Mathlib.Omega.{arith}
-use borrow.Author.Tests.{le-ltb, lt-ltb}
-use lib.Dec.{eqb}
-use lib.ListN.{length}
-use Rattle.lists.specs.Tests.{either}
-use Rattle.lists.specs.Lists.{keep}
-use Rattle.protocol.specs.declared.Logged.{Logged}
-use Rattle.protocol.specs.Parts.{State, on}
-use Rattle.protocol.specs.Checkpoint.{stays}
-use Rattle.words.specs.Rows.{row}
-use Rattle.words.specs.Sift.{sifted, sift-start, map-same}
+use Rattle.lists.specs.Basics.{_≡_, refl, _∙_, fun-ext, Bool, true, false, cond, not, _&&_, List, [], _∷_, map, ℕ, _≤_, _<_, arith, le-ltb, lt-ltb, eqb, length}
+use Rattle.lists.specs.{Tests.either, Lists.keep}
+use Rattle.protocol.specs.{declared.Logged.Logged, Parts.{State, on}, Checkpoint.stays}
+use Rattle.words.specs.{Rows.row, Sift.{sifted, sift-start, map-same}}
 use Rattle.logs.specs.Log.{logged-of, entries, is-kept}
 
 module _ (limit : ℕ → ℕ) (x : Logged) where

@@ -1,24 +1,10 @@
 -- What a log holds fits a word: chares below 16, hops below 8, other numbers below 65536; and it has as many messages as there is room.
-use mathlib.Core.Path.{_≡_, refl}
-use mathlib.Core.Bool.{Bool}
-use mathlib.Core.List.{List}
-use mathlib.Core.Option.{Option, some, none}
-use Prim.Native.Nat.{ℕ, _-_, _<_, _≤_}
-use native.Mathlib.Omega.{arith}
-use native.Mathlib.Nat.{mod-eq-of-lt}
-use lib.Dec.{eqb}
-use lib.ListN.{length, getD}
-use Rattle.lists.specs.Tests.{either}
-use Rattle.lists.specs.Lists.{find}
-use Rattle.protocol.specs.declared.Message.{Message}
-use Rattle.protocol.specs.declared.Logged.{Logged}
-use Rattle.protocol.specs.declared.Lookup.the-variants.{Unticketed}
-use Rattle.protocol.specs.Packets.{for-receiver, looked-up, lookup}
-use Rattle.words.specs.Rows.{row, row-length}
-use Rattle.words.specs.Mapped.{find-holds}
+use Rattle.lists.specs.Basics.{_≡_, refl, Bool, List, Option, some, none, ℕ, _-_, _<_, _≤_, arith, mod-eq-of-lt, eqb, length, getD}
+use Rattle.lists.specs.{Tests.either, Lists.find}
+use Rattle.protocol.specs.{declared.Message.Message, declared.Logged.Logged, declared.Lookup.the-variants.Unticketed, Packets.{for-receiver, looked-up, lookup}}
+use Rattle.words.specs.{Rows.{row, row-length}, Mapped.find-holds}
 use Rattle.item.specs.Item.{item-of}
-use Rattle.logs.specs.Log.{logged-of, as-logged, fitted, entries}
-use Rattle.logs.specs.Words.{entries-length, entry-at}
+use Rattle.logs.specs.{Log.{logged-of, as-logged, fitted, entries}, Words.{entries-length, entry-at}}
 
 pub entries-fit : (ws : List ℕ) → length (entries ws) ≤ length ws - 1
 entries-fit ws = omega (arith, entries-length ws, row-length ws)

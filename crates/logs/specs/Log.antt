@@ -1,11 +1,7 @@
 -- A logged message as an item of a row: the peer is the receiver, the owner the sender. A log is a row of them.
-use mathlib.Core.Bool.{Bool, not, _&&_}
-use mathlib.Core.List.{List, map}
-use Prim.Native.Nat.{ℕ, _%_}
-use lib.Dec.{eqb, ltb}
+use Rattle.lists.specs.Basics.{Bool, not, _&&_, List, map, ℕ, _%_, eqb, ltb}
 use Rattle.protocol.specs.declared.Logged.{Logged}
-use Rattle.item.specs.declared.Item.{Item}
-use Rattle.item.specs.Item.{item-of}
+use Rattle.item.specs.{declared.Item.Item, Item.item-of}
 use Rattle.words.specs.Rows.{row}
 
 unfoldable pub as-logged : Item → Logged

@@ -1,22 +1,10 @@
 -- What is done to the words of a log is done to its messages.
-use mathlib.Core.Path.{_≡_, sym, ap, _∙_}
-use mathlib.Core.Bool.{true, false}
-use mathlib.Core.List.{List, _∷_, map}
-use Prim.Native.Nat.{ℕ, _+_, _-_, _<_, _≤_}
-use native.Mathlib.Omega.{arith}
-use native.Mathlib.Nat.{mod-eq-of-lt}
-use native.Mathlib.Numerals.{add-one}
-use borrow.Author.Tests.{eq-eqb, ne-eqb}
-use lib.ListN.{length, getD, set, drop, length-map, List·getD-map, drop-of-length-le}
-use lib.Seq.{drop-cons}
+use Rattle.lists.specs.Basics.{_≡_, sym, ap, _∙_, true, false, List, _∷_, map, ℕ, _+_, _-_, _<_, _≤_, arith, mod-eq-of-lt, add-one, eq-eqb, ne-eqb, length, getD, set, drop}
+use Rattle.lists.specs.Basics.{length-map, List·getD-map, drop-of-length-le, drop-cons}
 use Rattle.lists.specs.Lists.{remove1, allb}
-use Rattle.arrays.specs.Front.{push}
-use Rattle.arrays.specs.Place.{place}
-use Rattle.protocol.specs.declared.Logged.{Logged}
-use Rattle.protocol.specs.declared.Lookup.the-variants.{Missing, Ticketed, Unticketed}
-use Rattle.protocol.specs.Packets.{for-receiver, looked-up, lookup, set-tn, ticketed}
-use Rattle.words.specs.Rows.{row, row-at, named, without}
-use Rattle.words.specs.Mapped.{find-at, find-no, change-at, change-no, remove-at, map-push}
+use Rattle.arrays.specs.{Front.push, Place.place}
+use Rattle.protocol.specs.{declared.Logged.Logged, declared.Lookup.the-variants.{Missing, Ticketed, Unticketed}, Packets.{for-receiver, looked-up, lookup, set-tn, ticketed}}
+use Rattle.words.specs.{Rows.{row, row-at, named, without}, Mapped.{find-at, find-no, change-at, change-no, remove-at, map-push}}
 use Rattle.item.specs.Item.{item-of, clipped, peer-small, owner-small, hops-small, by-name as item-name}
 use Rattle.logs.specs.Log.{logged-of, as-logged, fitted, entries, has-ticket}
 

@@ -1,22 +1,13 @@
 -- The words of a memory that a work or a send writes: state, height, a mark, a window, an SN count.
-use mathlib.Core.Path.{_≡_, refl, ap, fun-ext, _∙_}
-use mathlib.Core.List.{List, [], _∷_, map}
-use Prim.Native.Nat.{ℕ, suc, zero, _+_, _%_, _≤_, _<_}
-use native.Mathlib.Omega.{arith}
-use native.Mathlib.Nat.{mod-eq-of-lt}
-use lib.ListN.{length, getD, set, length-map, length-set}
-use lib.Seq.{getD-set-same, getD-set-other}
+use Rattle.lists.specs.Basics.{_≡_, refl, ap, fun-ext, _∙_, List, [], _∷_, map, ℕ, suc, zero, _+_, _%_, _≤_, _<_, arith, mod-eq-of-lt, length, getD, set, length-map, length-set}
+use Rattle.lists.specs.Basics.{getD-set-same, getD-set-other}
 use Rattle.lists.specs.Map.{upd, upd-ind, upd-same, upd-other}
-use Rattle.arrays.specs.ArrayMap as arrays
 use Rattle.arrays.specs.ArrayMap.{as-map}
 use Rattle.protocol.specs.Parts.{Memory, with-sn}
 use Rattle.window.specs.Bits.{bits}
-use Rattle.words.specs.Part.{part, part-length}
-use Rattle.words.specs.PartSet.{part-set, part-set-before, part-set-behind}
-use Rattle.words.specs.Mapped.{map-set}
-use Rattle.memory.specs.declared.Numbers.{Numbers}
-use Rattle.memory.specs.Places.{STATE, HEIGHT, TOP, NUMBERS, SN, MARK, WINDOW, TABLE, ROW, LOG, MEMORY}
-use Rattle.memory.specs.View.{memory-view}
+use Rattle.words.specs.{Part.{part, part-length}, PartSet.{part-set, part-set-before, part-set-behind}, Mapped.map-set}
+use Rattle.memory.specs.{declared.Numbers.Numbers, Places.{STATE, HEIGHT, TOP, NUMBERS, SN, MARK, WINDOW, TABLE, ROW, LOG, MEMORY}, View.memory-view}
+use Rattle.arrays.specs.ArrayMap as arrays
 
 -- the four words as they stand, for the sender s
 unfoldable pub taken : List ℕ → ℕ → Numbers

@@ -1,19 +1,13 @@
 -- A chare's memory as words: state, height, top, 16 SN counts, 16 marks, 16 windows, the table and the log. A peer of an item is one of 16,
 -- so each has a mark.
-use mathlib.Core.Path.{_≡_, refl, sym, ap, _∙_}
-use mathlib.Core.List.{List, map}
-use Prim.Native.Nat.{ℕ, _+_, _%_, _≤_, _<_}
-use native.Mathlib.Omega.{arith}
-use lib.ListN.{length, getD, length-map, List·getD-map}
+use Rattle.lists.specs.Basics.{_≡_, refl, sym, ap, _∙_, List, map, ℕ, _+_, _%_, _≤_, _<_, arith, length, getD, length-map, List·getD-map}
 use Rattle.arrays.specs.ArrayMap.{as-map, map-beyond}
-use Rattle.protocol.specs.declared.Entry.{Entry}
-use Rattle.protocol.specs.declared.Logged.{Logged}
-use Rattle.protocol.specs.Parts.{Memory, with-table, with-log}
+use Rattle.protocol.specs.{declared.Entry.Entry, declared.Logged.Logged, Parts.{Memory, with-table, with-log}}
 use Rattle.window.specs.Bits.{bits}
 use Rattle.words.specs.Part.{part, put, part-at, part-length, part-put, part-before, part-behind}
+use Rattle.memory.specs.Places.{STATE, HEIGHT, TOP, NUMBERS, SN, MARK, WINDOW, TABLE, ROW, LOG, MEMORY}
 use Rattle.tickets.specs.Table as tickets
 use Rattle.logs.specs.Log as logs
-use Rattle.memory.specs.Places.{STATE, HEIGHT, TOP, NUMBERS, SN, MARK, WINDOW, TABLE, ROW, LOG, MEMORY}
 
 unfoldable pub memory-view : List ℕ → Memory
 memory-view ws = record {

@@ -1,15 +1,9 @@
 -- What a note list holds fits a word: chares below 16, SN and TN below 65536; and it has as many notes as there is room.
-use mathlib.Core.Path.{_≡_}
-use mathlib.Core.List.{List}
-use Prim.Native.Nat.{ℕ, _-_, _<_}
-use native.Mathlib.Omega.{arith}
-use native.Mathlib.Nat.{mod-eq-of-lt}
-use lib.ListN.{getD}
+use Rattle.lists.specs.Basics.{_≡_, List, ℕ, _-_, _<_, arith, mod-eq-of-lt, getD}
 use Rattle.protocol.specs.declared.Note.{Note}
 use Rattle.words.specs.Rows.{row}
 use Rattle.item.specs.Item.{item-of}
-use Rattle.notelist.specs.Notes.{note-of, as-note, fitted, notes}
-use Rattle.notelist.specs.Words.{note-at}
+use Rattle.notelist.specs.{Notes.{note-of, as-note, fitted, notes}, Words.note-at}
 
 pub record Fits (x : Note) : Type 0 where
   pub sender : x .sender < 16

@@ -1,10 +1,8 @@
 -- A note as an item of a row: as of a packet, the peer is the receiver and the owner the sender. A note list is a row of them, in the order
 -- of arrival.
-use mathlib.Core.List.{List, map}
-use Prim.Native.Nat.{ℕ, _%_}
+use Rattle.lists.specs.Basics.{List, map, ℕ, _%_}
 use Rattle.protocol.specs.declared.Note.{Note}
-use Rattle.item.specs.declared.Item.{Item}
-use Rattle.item.specs.Item.{item-of}
+use Rattle.item.specs.{declared.Item.Item, Item.item-of}
 use Rattle.words.specs.Rows.{row}
 
 unfoldable pub as-note : Item → Note

@@ -1,15 +1,7 @@
 -- When a word is a note: its lowest fields, SN, receiver and sender, in one number, and its TN.
-use mathlib.Core.Path.{_≡_, refl, sym}
-use mathlib.Core.Bool.{true, false}
-use mathlib.Core.List.{List, [], _∷_, map}
-use Prim.Native.Nat.{ℕ, _+_, _*_, _/_, _%_, _<_, _≤_}
-use native.Mathlib.Omega.{arith}
-use borrow.Author.Tests.{eqb-true, eq-eqb}
-use lib.Dec.{eqb}
-use Rattle.lists.specs.Tests.{either, and4}
-use Rattle.lists.specs.Lists.{anyb}
-use Rattle.protocol.specs.declared.Note.{Note}
-use Rattle.protocol.specs.Packets.{same-note, is-noted}
+use Rattle.lists.specs.Basics.{_≡_, refl, sym, true, false, List, [], _∷_, map, ℕ, _+_, _*_, _/_, _%_, _<_, _≤_, arith, eqb-true, eq-eqb, eqb}
+use Rattle.lists.specs.{Tests.{either, and4}, Lists.anyb}
+use Rattle.protocol.specs.{declared.Note.Note, Packets.{same-note, is-noted}}
 use Rattle.words.specs.Rows.{PEER, OWNER, row}
 use Rattle.item.specs.Item.{KIND, item-of, peer-small, owner-small}
 use Rattle.notelist.specs.Notes.{note-of, as-note, notes}

@@ -1,19 +1,10 @@
 -- What is done to the words of a note list is done to its notes.
-use mathlib.Core.Path.{_≡_, refl, sym, ap, _∙_}
-use mathlib.Core.Bool.{true, false}
-use mathlib.Core.List.{List, [], _∷_, map}
-use Prim.Native.Nat.{ℕ, _+_, _-_, _<_, _≤_}
-use native.Mathlib.Omega.{arith}
-use native.Mathlib.Numerals.{add-one}
-use lib.ListN.{length, getD, set, drop, length-map, List·getD-map, drop-of-length-le}
-use lib.Seq.{drop-cons}
+use Rattle.lists.specs.Basics.{_≡_, refl, sym, ap, _∙_, true, false, List, [], _∷_, map, ℕ, _+_, _-_, _<_, _≤_, arith, add-one, length, getD, set, drop, length-map, List·getD-map}
+use Rattle.lists.specs.Basics.{drop-of-length-le, drop-cons}
 use Rattle.lists.specs.Lists.{anyb}
 use Rattle.arrays.specs.Front.{push}
-use Rattle.protocol.specs.declared.Note.{Note}
-use Rattle.protocol.specs.Packets.{same-note, is-noted}
-use Rattle.words.specs.Rows.{row, row-at}
-use Rattle.words.specs.Sift.{row-cut}
-use Rattle.words.specs.Mapped.{map-push}
+use Rattle.protocol.specs.{declared.Note.Note, Packets.{same-note, is-noted}}
+use Rattle.words.specs.{Rows.{row, row-at}, Sift.row-cut, Mapped.map-push}
 use Rattle.item.specs.Item.{item-of, clipped}
 use Rattle.notelist.specs.Notes.{note-of, as-note, fitted, notes}
 

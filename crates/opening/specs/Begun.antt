@@ -1,29 +1,15 @@
 -- A job begun in place, and the answers to its frame.
-use mathlib.Core.Path.{_≡_, refl, ap, _∙_}
-use mathlib.Core.Bool.{true, false}
-use mathlib.Core.List.{List, []}
-use Prim.Native.Nat.{ℕ, _≤_}
-use native.Mathlib.Omega.{arith}
-use lib.ListN.{getD, replicate, length-replicate}
+use Rattle.lists.specs.Basics.{_≡_, refl, ap, _∙_, true, false, List, [], ℕ, _≤_, arith, getD, replicate, length-replicate}
 use Rattle.lists.specs.Questions.{asks}
-use Rattle.protocol.specs.declared.Answer.the-variants.{Accepted, Refused}
-use Rattle.protocol.specs.declared.Status.the-variants.{Up}
-use Rattle.protocol.specs.Job.{chares-of, job-in-range, job-of, has-machine, has-chare, new-memory, first-memory, begin}
-use Rattle.protocol.specs.Parts.{State, blank, start}
-use Rattle.protocol.specs.Questions.{job-questions}
-use Rattle.protocol.specs.Step.{Outcome, judged}
+use Rattle.protocol.specs.{declared.Answer.the-variants.{Accepted, Refused}, declared.Status.the-variants.Up}
+use Rattle.protocol.specs.{Job.{chares-of, job-in-range, job-of, has-machine, has-chare, new-memory, first-memory, begin}, Parts.{State, blank, start}, Questions.job-questions}
+use Rattle.protocol.specs.{Step.{Outcome, judged}}
 use Rattle.jobline.specs.JobLaws.{in-range}
-use Rattle.words.specs.Part.{put}
-use Rattle.words.specs.Zeros.{zeros}
-use Rattle.head.specs.Head as head
+use Rattle.words.specs.{Part.put, Zeros.zeros}
 use Rattle.head.specs.Head.{HEAD, lost-of}
-use Rattle.store.specs.Places.{STORE}
-use Rattle.store.specs.View.{view, outcome, tried, Framed}
-use Rattle.store.specs.ViewLaws.{whole-head-put, with-head}
-use Rattle.opening.specs.Words.{Written}
-use Rattle.opening.specs.HeadSays.{head-says}
-use Rattle.opening.specs.States.{named, all-started}
-use Rattle.opening.specs.Zeros.{zeros-view}
+use Rattle.store.specs.{Places.STORE, View.{view, outcome, tried, Framed}, ViewLaws.{whole-head-put, with-head}}
+use Rattle.opening.specs.{Words.Written, HeadSays.head-says, States.{named, all-started}, Zeros.zeros-view}
+use Rattle.head.specs.Head as head
 
 module _ (b : List ℕ) (ok : job-in-range b ≡ true) (n : ℕ) (is-n : n ≡ getD b 2 0) where
   pub chares-few : n ≤ 12

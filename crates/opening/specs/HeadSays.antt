@@ -1,29 +1,16 @@
 -- A written head says the line's job, if its numbers are in range.
-use mathlib.Core.Path.{_≡_, refl, sym, fun-ext}
-use mathlib.Core.Bool.{true, false}
-use mathlib.Core.List.{List}
-use mathlib.Core.Logic.{⊎-elim}
-use Prim.Native.Nat.{ℕ, _+_, _≤_}
-use native.Mathlib.Omega.{arith}
-use lib.ListN.{length}
+use Rattle.lists.specs.Basics.{_≡_, refl, sym, fun-ext, true, false, List, ⊎-elim, ℕ, _+_, _≤_, arith, length}
 use Rattle.lists.specs.Tests.{lt?}
 use Rattle.arrays.specs.ArrayMap.{as-map, map-beyond}
-use Rattle.protocol.specs.declared.Status.the-variants.{Up}
-use Rattle.protocol.specs.Job.{machines-of, chares-of, job-in-range, job-of, has-machine}
+use Rattle.protocol.specs.{declared.Status.the-variants.Up, Job.{machines-of, chares-of, job-in-range, job-of, has-machine}}
 use Rattle.frames.specs.DigitLaws.{between-high}
-use Rattle.jobline.specs.JobCode.{no-buddy-low, no-buddy-high, no-number-low, no-number-high}
-use Rattle.jobline.specs.JobLaws.{in-range}
-use Rattle.jobline.specs.Bounds.{buddy-top, number-top, home-top, first-top, second-top}
+use Rattle.jobline.specs.{JobCode.{no-buddy-low, no-buddy-high, no-number-low, no-number-high}, JobLaws.in-range, Bounds.{buddy-top, number-top, home-top, first-top, second-top}}
 use Rattle.jobline.specs.Passes.{number-of}
-use Rattle.words.specs.Fields.{bit-set}
-use Rattle.words.specs.Part.{part, part-length}
-use Rattle.words.specs.Zeros.{zero-at}
-use Rattle.head.specs.Cells.{Filled, cell-filled}
-use Rattle.head.specs.Head as head
-use Rattle.head.specs.Head.{BUDDY, HELD, HOME, FIRST, SECOND, HEAD, cell, lost-of, as-status, status-of, held-of, target-of}
-use Rattle.head.specs.HeadLaws.{job-is}
+use Rattle.words.specs.{Fields.bit-set, Part.{part, part-length}, Zeros.zero-at}
+use Rattle.head.specs.{Cells.{Filled, cell-filled}, Head.{BUDDY, HELD, HOME, FIRST, SECOND, HEAD, cell, lost-of, as-status, status-of, held-of, target-of}, HeadLaws.job-is}
 use Rattle.head.specs.Kept.{Says}
 use Rattle.opening.specs.Words.{word-of, Written}
+use Rattle.head.specs.Head as head
 
 module _ (b : List ℕ) (ok : job-in-range b ≡ true) where
   numbers-are : (i m : ℕ) (l : List ℕ) → ((c : ℕ) → number-of b i c ≤ m) → length l ≡ 13 → Filled (number-of b i) l 13 → (c : ℕ) → cell m l c ≡ number-of b i c

@@ -1,23 +1,11 @@
 -- Chares start with their numbers as states, one after the other.
-use mathlib.Core.Path.{_≡_, refl, sym, ap, _∙_}
-use mathlib.Core.Bool.{true, false, cond}
-use mathlib.Core.List.{List}
-use Prim.Native.Nat.{ℕ, _+_, _-_, _<_, _≤_}
-use native.Mathlib.Omega.{arith}
-use native.Mathlib.Nat.{mod-eq-of-lt}
-use lib.ListN.{length, set}
-use lib.Seq.{getD-set-same, getD-set-other}
+use Rattle.lists.specs.Basics.{_≡_, refl, sym, ap, _∙_, true, false, cond, List, ℕ, _+_, _-_, _<_, _≤_, arith, mod-eq-of-lt, length, set, getD-set-same, getD-set-other}
 use Rattle.lists.specs.Map.{upd}
-use Rattle.protocol.specs.Parts.{Memory, State, with-memory}
-use Rattle.protocol.specs.Frames.{between}
+use Rattle.protocol.specs.{Parts.{Memory, State, with-memory}, Frames.between}
 use Rattle.frames.specs.DigitLaws.{between-in, between-low, between-high}
-use Rattle.words.specs.Part.{part, put, part-length}
-use Rattle.words.specs.PartSet.{part-set, part-set-before}
-use Rattle.memory.specs.Places.{STATE, HEIGHT, TOP, NUMBERS, SN, MARK, WINDOW, TABLE, ROW, LOG, MEMORY}
-use Rattle.memory.specs.View.{memory-view}
-use Rattle.store.specs.Places.{STORE, live-from, copy-from}
-use Rattle.store.specs.View.{view}
-use Rattle.store.specs.ViewLaws.{copy-at, live-changed, live-length, copy-put, with-copy}
+use Rattle.words.specs.{Part.{part, put, part-length}, PartSet.{part-set, part-set-before}}
+use Rattle.memory.specs.{Places.{STATE, HEIGHT, TOP, NUMBERS, SN, MARK, WINDOW, TABLE, ROW, LOG, MEMORY}, View.memory-view}
+use Rattle.store.specs.{Places.{STORE, live-from, copy-from}, View.view, ViewLaws.{copy-at, live-changed, live-length, copy-put, with-copy}}
 use Rattle.settle.specs.Sweep.{front, above, front-start, front-put, front-end}
 
 abbrev pub with-state : Memory → ℕ → Memory

@@ -1,20 +1,10 @@
 -- What a job's line writes into the head.
-use mathlib.Core.Path.{_≡_, sym, ap, _∙_}
-use mathlib.Core.Bool.{cond}
-use mathlib.Core.List.{List, [], _∷_}
-use Prim.Native.Nat.{ℕ, _+_, _-_, _<_, _≤_}
-use native.Mathlib.Omega.{arith}
-use borrow.Author.Tests.{eq-eqb, ne-eqb}
-use lib.Dec.{eqb}
-use lib.ListN.{length, getD, set}
+use Rattle.lists.specs.Basics.{_≡_, sym, ap, _∙_, cond, List, [], _∷_, ℕ, _+_, _-_, _<_, _≤_, arith, eq-eqb, ne-eqb, eqb, length, getD, set}
 use Rattle.protocol.specs.Job.{machines-of, job-of, has-machine}
 use Rattle.frames.specs.DigitLaws.{between-in, between-low, between-high}
 use Rattle.jobline.specs.Passes.{number-of}
-use Rattle.words.specs.Fields.{bit}
-use Rattle.words.specs.Part.{part, put, part-length, part-put, part-before, part-behind}
-use Rattle.words.specs.Zeros.{zeros}
-use Rattle.head.specs.Cells.{Filled}
-use Rattle.head.specs.Head.{SET, MACHINES, CHARES, BUDDY, STATUS, HELD, HOME, FIRST, SECOND, TARGET, HEAD}
+use Rattle.words.specs.{Fields.bit, Part.{part, put, part-length, part-put, part-before, part-behind}, Zeros.zeros}
+use Rattle.head.specs.{Cells.Filled, Head.{SET, MACHINES, CHARES, BUDDY, STATUS, HELD, HOME, FIRST, SECOND, TARGET, HEAD}}
 
 -- the word at k of a part of the head
 unfoldable pub word-of : List ℕ → ℕ → ℕ → ℕ

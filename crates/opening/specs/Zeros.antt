@@ -1,32 +1,17 @@
 -- A store of zeros is the state before any job.
-use mathlib.Core.Path.{_≡_, refl}
-use mathlib.Core.Bool.{false}
-use mathlib.Core.List.{[]}
-use Prim.Native.Nat.{ℕ, _+_, _*_, _≤_}
-use native.Mathlib.Omega.{arith}
-use borrow.Author.Tests.{ltb-true}
-use lib.Dec.{ltb}
-use lib.ListN.{replicate}
+use Rattle.lists.specs.Basics.{_≡_, refl, false, [], ℕ, _+_, _*_, _≤_, arith, ltb-true, ltb, replicate}
 use Rattle.lists.specs.Tests.{either}
 use Rattle.arrays.specs.ArrayMap.{as-map, map-blank}
-use Rattle.protocol.specs.declared.Status.the-variants.{Up}
-use Rattle.protocol.specs.Parts.{blank, start, no-job}
+use Rattle.protocol.specs.{declared.Status.the-variants.Up, Parts.{blank, start, no-job}}
 use Rattle.window.specs.BitLaws.{no-bits}
-use Rattle.words.specs.Part.{part}
-use Rattle.words.specs.Rows.{row}
-use Rattle.words.specs.Slots.{slots}
-use Rattle.words.specs.Zeros.{zeros, zero-at, part-zeros, row-zeros}
-use Rattle.head.specs.Cells.{cell-none}
-use Rattle.head.specs.Head.{BUDDY, STATUS, HELD, HOME, FIRST, SECOND, TARGET, job-of, lost-of, as-status, status-of, held-of, target-of}
-use Rattle.head.specs.HeadLaws.{job-is}
-use Rattle.tickets.specs.Table as tickets
-use Rattle.logs.specs.Log as logs
+use Rattle.words.specs.{Part.part, Rows.row, Slots.slots, Zeros.{zeros, zero-at, part-zeros, row-zeros}}
+use Rattle.head.specs.{Cells.cell-none, Head.{BUDDY, STATUS, HELD, HOME, FIRST, SECOND, TARGET, job-of, lost-of, as-status, status-of, held-of, target-of}, HeadLaws.job-is}
 use Rattle.notelist.specs.Notes.{notes}
 use Rattle.packets.specs.Words.{packets}
-use Rattle.memory.specs.Places.{NUMBERS, SN, MARK, WINDOW, TABLE, ROW, LOG, MEMORY}
-use Rattle.memory.specs.View.{memory-view}
-use Rattle.store.specs.Places.{STORE, LIVE, COPY, NOTES, NOTELIST, WIRE, PACKETS}
-use Rattle.store.specs.View.{view}
+use Rattle.memory.specs.{Places.{NUMBERS, SN, MARK, WINDOW, TABLE, ROW, LOG, MEMORY}, View.memory-view}
+use Rattle.store.specs.{Places.{STORE, LIVE, COPY, NOTES, NOTELIST, WIRE, PACKETS}, View.view}
+use Rattle.tickets.specs.Table as tickets
+use Rattle.logs.specs.Log as logs
 
 memory-zeros : memory-view (zeros MEMORY) ≡ blank
 unfolding memory-view blank tickets.entries logs.entries

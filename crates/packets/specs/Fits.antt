@@ -1,21 +1,10 @@
 -- What a wire can hold: its room, and the range of every field of a packet on it.
-use mathlib.Core.Bool.{Bool}
-use mathlib.Core.List.{List}
-use mathlib.Core.Option.{some}
-use mathlib.Core.Path.{_≡_, sym}
-use Prim.Native.Nat.{ℕ, _-_, _<_, _≤_}
-use native.Mathlib.Omega.{arith}
-use native.Mathlib.Nat.{mod-eq-of-lt}
-use lib.Dec.{eqb}
-use lib.ListN.{length, length-map}
-use Rattle.lists.specs.Tests.{either}
-use Rattle.lists.specs.Lists.{find}
+use Rattle.lists.specs.Basics.{Bool, List, some, _≡_, sym, ℕ, _-_, _<_, _≤_, arith, mod-eq-of-lt, eqb, length, length-map}
+use Rattle.lists.specs.{Tests.either, Lists.find}
 use Rattle.protocol.specs.declared.Packet.{Packet}
-use Rattle.words.specs.Rows.{row, row-length}
-use Rattle.words.specs.Mapped.{find-holds}
+use Rattle.words.specs.{Rows.{row, row-length}, Mapped.find-holds}
 use Rattle.item.specs.Item.{item-of, peer-small, owner-small, hops-small}
-use Rattle.packets.specs.Words.{granted, carried, content-of, as-packet, unpacked, fit-content, fitted, packets}
-use Rattle.packets.specs.View.{found, sought, sought-packet}
+use Rattle.packets.specs.{Words.{granted, carried, content-of, as-packet, unpacked, fit-content, fitted, packets}, View.{found, sought, sought-packet}}
 use Rattle.packets.specs.declared.Found.the-variants.{At}
 
 pub packets-fit : (ws : List ℕ) → length (packets ws) ≤ length ws - 1

@@ -1,18 +1,10 @@
 -- The name of a word's packet: the kind that its kind field shows, and all that stands below it.
-use mathlib.Core.Bool.{Bool, true, false, _&&_}
-use mathlib.Core.List.{List}
-use mathlib.Core.Path.{_≡_, refl, sym}
-use Prim.Native.Nat.{ℕ, _+_, _*_, _/_, _%_, _<_, _≤_}
-use native.Mathlib.Omega.{arith}
-use borrow.Author.Tests.{eqb-true, eqb-false, eq-eqb, ne-eqb}
-use lib.Dec.{eqb}
+use Rattle.lists.specs.Basics.{Bool, true, false, _&&_, List, _≡_, refl, sym, ℕ, _+_, _*_, _/_, _%_, _<_, _≤_, arith, eqb-true, eqb-false, eq-eqb, ne-eqb, eqb}
 use Rattle.lists.specs.Tests.{either, and4}
 use Rattle.protocol.specs.Packets.{kind, is-named}
 use Rattle.words.specs.Rows.{PEER, OWNER}
 use Rattle.item.specs.Item.{KIND, item-of, owner-small, peer-small}
-use Rattle.packets.specs.Words.{granted, carried, content-of, as-packet, unpacked, packets}
-use Rattle.packets.specs.View.{sought, sought-never}
-use Rattle.packets.specs.declared.Found.the-variants.{Nothing}
+use Rattle.packets.specs.{Words.{granted, carried, content-of, as-packet, unpacked, packets}, View.{sought, sought-never}, declared.Found.the-variants.Nothing}
 
 -- ---- the kind
 grant-kind : (f t : ℕ) → kind (granted f t) ≡ 2

@@ -1,10 +1,7 @@
 -- A packet made a word: the fields of its content, and the word that has them.
-use mathlib.Core.Path.{_≡_}
-use Prim.Native.Nat.{ℕ, _%_}
-use Rattle.protocol.specs.declared.Content.{Content}
-use Rattle.protocol.specs.declared.Packet.{Packet}
-use Rattle.item.specs.declared.Item.{Item}
-use Rattle.item.specs.Item.{item-of, clipped}
+use Rattle.lists.specs.Basics.{_≡_, ℕ, _%_}
+use Rattle.protocol.specs.{declared.Content.Content, declared.Packet.Packet}
+use Rattle.item.specs.{declared.Item.Item, Item.{item-of, clipped}}
 use Rattle.packets.specs.Words.{carried, content-of, as-packet, unpacked, fit-content, fitted}
 
 -- an item with nothing but its content

@@ -1,21 +1,9 @@
 -- The packets that stay on the wire at a crash of machine p, and at its restart.
-use mathlib.Core.Bool.{Bool, true, false, cond, not, _&&_, _||_}
-use mathlib.Core.List.{List, [], _∷_, map}
-use mathlib.Core.Path.{_≡_, refl, sym, _∙_}
-use Prim.Native.Nat.{ℕ}
-use native.Mathlib.Omega.{arith}
-use borrow.Author.Tests.{eq-eqb, ne-eqb}
-use lib.Dec.{eqb}
-use lib.ListN.{length}
+use Rattle.lists.specs.Basics.{Bool, true, false, cond, not, _&&_, _||_, List, [], _∷_, map, _≡_, refl, sym, _∙_, ℕ, arith, eq-eqb, ne-eqb, eqb, length}
 use Rattle.lists.specs.Lists.{keep}
-use Rattle.protocol.specs.declared.Packet.{Packet}
-use Rattle.protocol.specs.Crash.{survives}
-use Rattle.protocol.specs.Packets.{kind, destination, goes-to}
-use Rattle.protocol.specs.Parts.{Job, on}
-use Rattle.words.specs.Rows.{row}
-use Rattle.words.specs.Sift.{sifted, sift-start, map-same}
-use Rattle.item.specs.declared.Item.{Item}
-use Rattle.item.specs.Item.{item-of}
+use Rattle.protocol.specs.{declared.Packet.Packet, Crash.survives, Packets.{kind, destination, goes-to}, Parts.{Job, on}}
+use Rattle.words.specs.{Rows.row, Sift.{sifted, sift-start, map-same}}
+use Rattle.item.specs.{declared.Item.Item, Item.item-of}
 use Rattle.packets.specs.Words.{as-packet, unpacked, packets}
 
 unfoldable pub stays : Bool → Job → ℕ → Packet → Bool

@@ -1,20 +1,10 @@
 -- What is found on a wire, and a wire with one packet more or less.
-use mathlib.Core.Bool.{Bool, false}
-use mathlib.Core.List.{List, [], _∷_, map}
-use mathlib.Core.Option.{Option, some, none}
-use mathlib.Core.Path.{_≡_, refl, sym, ap, _∙_}
-use Prim.Native.Nat.{ℕ, _-_, _<_, _≤_}
-use native.Mathlib.Omega.{arith}
-use lib.ListN.{length, getD, length-map}
+use Rattle.lists.specs.Basics.{Bool, false, List, [], _∷_, map, Option, some, none, _≡_, refl, sym, ap, _∙_, ℕ, _-_, _<_, _≤_, arith, length, getD, length-map}
 use Rattle.lists.specs.Lists.{find, remove1}
-use Rattle.arrays.specs.Front.{push}
-use Rattle.arrays.specs.Place.{place, remove-there}
+use Rattle.arrays.specs.{Front.push, Place.{place, remove-there}}
 use Rattle.protocol.specs.declared.Packet.{Packet}
-use Rattle.words.specs.Rows.{row, without}
-use Rattle.words.specs.Mapped.{find-at, find-no, place-map, map-push, map-without}
-use Rattle.packets.specs.Words.{unpacked, packets}
-use Rattle.packets.specs.declared.Found.{Found}
-use Rattle.packets.specs.declared.Found.the-variants.{Nothing, At}
+use Rattle.words.specs.{Rows.{row, without}, Mapped.{find-at, find-no, place-map, map-push, map-without}}
+use Rattle.packets.specs.{Words.{unpacked, packets}, declared.Found.Found, declared.Found.the-variants.{Nothing, At}}
 
 unfoldable pub found : Found → Option Packet
 found Nothing = none

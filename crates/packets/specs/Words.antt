@@ -1,13 +1,7 @@
 -- A packet as an item of a row: the peer is the receiver, the owner the sender, the kind as in a frame. Of a GRANT the flags say which.
-use mathlib.Core.Bool.{cond}
-use mathlib.Core.List.{List, map}
-use Prim.Native.Nat.{ℕ, _%_}
-use lib.Dec.{eqb}
-use Rattle.protocol.specs.declared.Content.{Content}
-use Rattle.protocol.specs.declared.Content.the-variants.{Ask, GrantOld, GrantReceived, GrantNew, Data, Note, Ack}
-use Rattle.protocol.specs.declared.Packet.{Packet}
-use Rattle.item.specs.declared.Item.{Item}
-use Rattle.item.specs.Item.{item-of}
+use Rattle.lists.specs.Basics.{cond, List, map, ℕ, _%_, eqb}
+use Rattle.protocol.specs.{declared.Content.Content, declared.Content.the-variants.{Ask, GrantOld, GrantReceived, GrantNew, Data, Note, Ack}, declared.Packet.Packet}
+use Rattle.item.specs.{declared.Item.Item, Item.item-of}
 use Rattle.words.specs.Rows.{row}
 
 -- the three GRANTs

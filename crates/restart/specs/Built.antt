@@ -1,28 +1,15 @@
 -- A table as it is built in an empty row: three walks that enter tickets, each from the table that the one before left, then the messages that fill.
-use mathlib.Core.Path.{_≡_, refl, sym, ap, _∙_}
-use mathlib.Core.Bool.{Bool, true, false}
-use mathlib.Core.List.{List, [], _++_}
-use Prim.Native.Nat.{ℕ, _+_, _<_}
-use native.Mathlib.Omega.{arith}
-use lib.Dec.{leb}
-use lib.ListN.{length, set}
+use Rattle.lists.specs.Basics.{_≡_, refl, sym, ap, _∙_, Bool, true, false, List, [], _++_, ℕ, _+_, _<_, arith, leb, length, set}
 use Rattle.lists.specs.Lists.{gather}
-use Rattle.protocol.specs.declared.Entry.{Entry}
-use Rattle.protocol.specs.Parts.{State, every-sender, every-chare}
-use Rattle.protocol.specs.Restart.{restored-table, filled-table, local-log}
+use Rattle.protocol.specs.{declared.Entry.Entry, Parts.{State, every-sender, every-chare}, Restart.{restored-table, filled-table, local-log}}
 use Rattle.protocol.specs.Recovery.Laws.Filled.{length-filled-table}
 use Rattle.words.specs.Sift.{row-cut}
 use Rattle.tickets.specs.Table.{entries}
 use Rattle.notelist.specs.Notes.{notes}
-use Rattle.memory.specs.Places.{TABLE, LOG, ROW, MEMORY}
-use Rattle.memory.specs.View.{memory-view}
-use Rattle.store.specs.Places.{NOTELIST, copy-from, notes-from}
-use Rattle.store.specs.View.{view}
-use Rattle.restart.specs.Limited.{held, limit, held-true, held-fits}
-use Rattle.restart.specs.Tables.{entering, entering-all, then-stop, then-on}
-use Rattle.restart.specs.Fills.{filling}
-use Rattle.restart.specs.Stored.{span, copy-table, copy-height, notes-kept}
-use Rattle.restart.specs.Sources.{copied, noted, sender-tickets, known, known-is}
+use Rattle.memory.specs.{Places.{TABLE, LOG, ROW, MEMORY}, View.memory-view}
+use Rattle.store.specs.{Places.{NOTELIST, copy-from, notes-from}, View.view}
+use Rattle.restart.specs.{Limited.{held, limit, held-true, held-fits}, Tables.{entering, entering-all, then-stop, then-on}, Fills.filling}
+use Rattle.restart.specs.{Stored.{span, copy-table, copy-height, notes-kept}, Sources.{copied, noted, sender-tickets, known, known-is}}
 
 -- a row whose count is 0
 emptied : (ws : List ℕ) → length ws ≡ ROW → entries (set ws 0 0) ≡ []

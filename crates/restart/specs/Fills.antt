@@ -1,14 +1,7 @@
 -- Restored log messages to local chares fill their entries: message by message, log by log.
-use mathlib.Core.Path.{_≡_, refl, sym, _∙_}
-use mathlib.Core.Bool.{true, false}
-use mathlib.Core.List.{List, [], _∷_, _++_}
-use Prim.Native.Nat.{ℕ, _%_, _<_}
-use native.Mathlib.Nat.{mod-eq-of-lt}
+use Rattle.lists.specs.Basics.{_≡_, refl, sym, _∙_, true, false, List, [], _∷_, _++_, ℕ, _%_, _<_, mod-eq-of-lt}
 use Rattle.lists.specs.Lists.{keep, keep-append, gather}
-use Rattle.protocol.specs.declared.Entry.{Entry}
-use Rattle.protocol.specs.declared.Logged.{Logged}
-use Rattle.protocol.specs.Tickets.{filled}
-use Rattle.protocol.specs.Restart.{fill-all, is-ticketed-above}
+use Rattle.protocol.specs.{declared.Entry.Entry, declared.Logged.Logged, Tickets.filled, Restart.{fill-all, is-ticketed-above}}
 
 fill-append : (l : List Entry) (a b : List Logged) → fill-all l (a ++ b) ≡ fill-all (fill-all l a) b
 unfolding fill-all

@@ -1,13 +1,7 @@
 -- A filtered and mapped list, and one of lists joined, as one walk through what they are made from.
-use mathlib.Core.Path.{_≡_, refl, sym, ap, _∙_}
-use mathlib.Core.Bool.{Bool, true, false, cond}
-use mathlib.Core.List.{List, [], _∷_, _++_, map, append-assoc}
-use Prim.Native.Nat.{ℕ, _+_, _≤_, _<_}
-use native.Mathlib.Numerals.{add-one}
-use lib.ListN.{length, drop, getD, drop-of-length-le}
-use lib.Seq.{drop-cons}
-use Rattle.lists.specs.Tests.{either}
-use Rattle.lists.specs.Lists.{keep, gather}
+use Rattle.lists.specs.Basics.{_≡_, refl, sym, ap, _∙_, Bool, true, false, cond, List, [], _∷_, _++_, map, append-assoc, ℕ, _+_, _≤_, _<_, add-one, length, drop, getD}
+use Rattle.lists.specs.Basics.{drop-of-length-le, drop-cons}
+use Rattle.lists.specs.{Tests.either, Lists.{keep, gather}}
 
 module _ {A B : Type 0} where
   -- an element that passes a test, mapped

@@ -1,30 +1,16 @@
 -- The chares of p take what they get back; the others stay. Their tables stand in rows, one a chare.
-use mathlib.Core.Path.{_≡_, refl, sym, ap, _∙_, fun-ext}
-use mathlib.Core.Bool.{Bool, true, false, not, _||_}
-use mathlib.Core.List.{List, _∷_}
-use mathlib.Core.Logic.{⊎-elim}
-use Prim.Native.Nat.{ℕ, _+_, _-_, _*_, _<_, _≤_}
-use native.Mathlib.Omega.{arith}
-use lib.Dec.{leb}
-use lib.ListN.{length}
-use Rattle.lists.specs.Tests.{either, true-not-false, eq?}
-use Rattle.lists.specs.Lists.{allb}
-use Rattle.lists.specs.Map.{upd}
-use Rattle.protocol.specs.declared.Entry.{Entry}
-use Rattle.protocol.specs.Parts.{Job, State, Memory, on, at-home, every-chare, with-live, with-status}
-use Rattle.protocol.specs.Restart.{filled-table, target-of}
+use Rattle.lists.specs.Basics.{_≡_, refl, sym, ap, _∙_, fun-ext, Bool, true, false, not, _||_, List, _∷_, ⊎-elim, ℕ, _+_, _-_, _*_, _<_, _≤_, arith, leb, length}
+use Rattle.lists.specs.{Tests.{either, true-not-false, eq?}, Lists.allb, Map.upd}
+use Rattle.protocol.specs.{declared.Entry.Entry, Parts.{Job, State, Memory, on, at-home, every-chare, with-live, with-status}, Restart.{filled-table, target-of}}
 use Rattle.protocol.specs.Questions.{tables-fit}
 use Rattle.arrays.specs.Loops.{allb-keep}
 use Rattle.words.specs.Part.{part, put, part-put, part-before}
 use Rattle.head.specs.Head.{job-of}
 use Rattle.tickets.specs.Table.{entries}
 use Rattle.memory.specs.Places.{ROW}
-use Rattle.store.specs.View.{view}
-use Rattle.store.specs.Visits.{chosen, visited, visit-none, visit-hit, visit-miss, visit-all}
-use Rattle.restart.specs.Limited.{held, limit, held-true, held-fits}
-use Rattle.restart.specs.Ranges.{range, range-next, range-past, range-chares}
-use Rattle.restart.specs.Stored.{span, job-at}
-use Rattle.restart.specs.Restored.{renewed, come-back}
+use Rattle.store.specs.{View.view, Visits.{chosen, visited, visit-none, visit-hit, visit-miss, visit-all}}
+use Rattle.restart.specs.{Limited.{held, limit, held-true, held-fits}, Ranges.{range, range-next, range-past, range-chares}, Stored.{span, job-at}}
+use Rattle.restart.specs.{Restored.{renewed, come-back}}
 
 abbrev pub ROWS : ℕ
 ROWS = 13 * ROW

@@ -1,16 +1,8 @@
 -- A restart judged: the questions in order.
-use mathlib.Core.Path.{_≡_, refl, sym, ap, _∙_}
-use mathlib.Core.Bool.{Bool, true, false, not}
-use mathlib.Core.List.{List, [], _∷_, _++_}
-use mathlib.Core.Logic.{_≢_}
-use Prim.Native.Nat.{ℕ}
+use Rattle.lists.specs.Basics.{_≡_, refl, sym, ap, _∙_, Bool, true, false, not, List, [], _∷_, _++_, _≢_, ℕ}
 use Rattle.lists.specs.Questions.{asks, asks-no, asks-after, first-no, first-no-yes}
-use Rattle.protocol.specs.declared.Answer.the-variants.{Accepted, Refused}
-use Rattle.protocol.specs.Frames.{between}
-use Rattle.protocol.specs.Parts.{State, is-down}
-use Rattle.protocol.specs.Restart.{restart}
-use Rattle.protocol.specs.Questions.{restart-questions, is-machine, tables-fit, wire-fits}
-use Rattle.protocol.specs.Step.{Outcome, judged}
+use Rattle.protocol.specs.{declared.Answer.the-variants.{Accepted, Refused}, Frames.between, Parts.{State, is-down}, Restart.restart}
+use Rattle.protocol.specs.{Questions.{restart-questions, is-machine, tables-fit, wire-fits}, Step.{Outcome, judged}}
 use Rattle.head.specs.Head.{job-of, lost-of}
 use Rattle.store.specs.View.{view, tried}
 

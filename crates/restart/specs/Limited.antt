@@ -1,15 +1,7 @@
 -- A list that grows step by step, held while it has at most K elements: past that nothing is left, whatever follows.
-use mathlib.Core.Path.{_≡_, refl, sym, _∙_}
-use mathlib.Core.Bool.{Bool, true, false, cond}
-use mathlib.Core.List.{List, [], _∷_, _++_}
-use mathlib.Core.Option.{Option, some, none}
-use Prim.Native.Nat.{ℕ, _≤_}
-use native.Mathlib.Omega.{arith}
-use borrow.Author.Tests.{le-leb, lt-leb, leb-true, leb-false}
-use lib.Dec.{leb}
-use lib.ListN.{length}
-use Rattle.lists.specs.Tests.{either}
-use Rattle.lists.specs.Lists.{gather}
+use Rattle.lists.specs.Basics.{_≡_, refl, sym, _∙_, Bool, true, false, cond, List, [], _∷_, _++_, Option, some, none, ℕ, _≤_, arith, le-leb, lt-leb, leb-true, leb-false, leb}
+use Rattle.lists.specs.Basics.{length}
+use Rattle.lists.specs.{Tests.either, Lists.gather}
 
 module _ {A : Type 0} where
   -- the list, where the flag says so

@@ -1,17 +1,8 @@
 -- Only chares 1 to 12 are on a machine.
-use mathlib.Core.Path.{_≡_, sym, _∙_}
-use mathlib.Core.Bool.{Bool, true, false}
-use mathlib.Core.Logic.{⊎-elim}
-use mathlib.Core.List.{List}
-use Prim.Native.Nat.{ℕ, _<_, _≤_}
-use native.Mathlib.Omega.{arith}
-use borrow.Author.Tests.{ne-eqb}
-use lib.Dec.{eqb}
-use lib.ListN.{length}
+use Rattle.lists.specs.Basics.{_≡_, sym, _∙_, Bool, true, false, ⊎-elim, List, ℕ, _<_, _≤_, arith, ne-eqb, eqb, length}
 use Rattle.lists.specs.Tests.{true-not-false, lt?}
 use Rattle.protocol.specs.Parts.{on}
-use Rattle.head.specs.Head.{HEAD, job-of}
-use Rattle.head.specs.HeadLaws.{home-desk, home-beyond}
+use Rattle.head.specs.{Head.{HEAD, job-of}, HeadLaws.{home-desk, home-beyond}}
 use Rattle.store.specs.View.{view}
 use Rattle.restart.specs.Stored.{job-at}
 

@@ -1,11 +1,5 @@
 -- A list copied over another of its length, word by word: i words are there.
-use mathlib.Core.Path.{_≡_, sym, _∙_}
-use mathlib.Core.List.{List}
-use Prim.Native.Nat.{ℕ, _+_, _≤_, _<_}
-use native.Mathlib.Omega.{arith}
-use native.Mathlib.Numerals.{add-one}
-use lib.ListN.{length, take, getD, set}
-use lib.Seq.{take-suc, take-suc-set, take-all}
+use Rattle.lists.specs.Basics.{_≡_, sym, _∙_, List, ℕ, _+_, _≤_, _<_, arith, add-one, length, take, getD, set, take-suc, take-suc-set, take-all}
 
 module _ (from to : List ℕ) (i : ℕ) (size : length to ≡ length from) (inv : take i to ≡ take i from) where
   pub over-one : i < length from → take (i + 1) (set to i (getD from i 0)) ≡ take (i + 1) from

@@ -1,9 +1,5 @@
 -- The numbers from k up to e, e itself left out: what a loop that counts has still to go through.
-use mathlib.Core.Path.{_≡_, refl}
-use mathlib.Core.List.{List, [], _∷_}
-use Prim.Native.Nat.{ℕ, zero, suc, _+_, _-_, _≤_, _<_}
-use native.Mathlib.Omega.{arith}
-use native.Mathlib.Numerals.{add-one}
+use Rattle.lists.specs.Basics.{_≡_, refl, List, [], _∷_, ℕ, zero, suc, _+_, _-_, _≤_, _<_, arith, add-one}
 use Rattle.protocol.specs.Parts.{every-chare, every-sender}
 
 unfoldable pub count-from : ℕ → ℕ → List ℕ

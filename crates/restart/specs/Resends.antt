@@ -1,32 +1,16 @@
 -- The messages sent again at a restart. What is restored is the copy with another table and top, so heights and logs of the chares on p are
 -- those of the copies.
-use mathlib.Core.Path.{_≡_, refl, ap, fun-ext}
-use mathlib.Core.Bool.{Bool, true, false, cond}
-use mathlib.Core.List.{List, [], _∷_, map}
-use Prim.Native.Nat.{ℕ, _+_, _<_, _≤_}
-use native.Mathlib.Nat.{mod-eq-of-lt}
-use borrow.Author.Tests.{eq-eqb, ne-eqb, lt-ltb, le-ltb}
-use lib.Dec.{eqb, ltb}
-use Rattle.lists.specs.Tests.{either}
-use Rattle.lists.specs.Lists.{gather, sort}
-use Rattle.protocol.specs.declared.Content.{Content}
-use Rattle.protocol.specs.declared.Content.the-variants.{Ask as ASK, Data as DATA}
-use Rattle.protocol.specs.declared.Logged.{Logged}
-use Rattle.protocol.specs.declared.Message.{Message}
-use Rattle.protocol.specs.declared.Packet.{Packet}
-use Rattle.protocol.specs.Parts.{State, on, at-home, every-sender}
-use Rattle.protocol.specs.Sending.{about}
-use Rattle.protocol.specs.Restart.{from-elsewhere, from-here, resend, resends, restore, restored, log-order}
+use Rattle.lists.specs.Basics.{_≡_, refl, ap, fun-ext, Bool, true, false, cond, List, [], _∷_, map, ℕ, _+_, _<_, _≤_, mod-eq-of-lt, eq-eqb, ne-eqb, lt-ltb, le-ltb, eqb, ltb}
+use Rattle.lists.specs.{Tests.either, Lists.{gather, sort}}
+use Rattle.protocol.specs.{declared.Content.Content, declared.Content.the-variants.{Ask as ASK, Data as DATA}, declared.Logged.Logged, declared.Message.Message}
+use Rattle.protocol.specs.{declared.Packet.Packet, Parts.{State, on, at-home, every-sender}, Sending.about}
+use Rattle.protocol.specs.{Restart.{from-elsewhere, from-here, resend, resends, restore, restored, log-order}}
 use Rattle.head.specs.Head.{job-of}
-use Rattle.logs.specs.Log.{entries as messages}
-use Rattle.logs.specs.Fits.{Fits}
+use Rattle.logs.specs.{Log.entries as messages, Fits.Fits}
 use Rattle.packets.specs.Words.{fitted, fit-content}
 use Rattle.memory.specs.Places.{LOG, MEMORY}
-use Rattle.store.specs.Places.{live-from, copy-from}
-use Rattle.store.specs.View.{view}
-use Rattle.restart.specs.declared.resend.Outgoing.{Outgoing}
-use Rattle.restart.specs.declared.resend.Outgoing.the-variants.{Nothing, Send}
-use Rattle.restart.specs.Stored.{span, job-at, live-log, copy-log}
+use Rattle.store.specs.{Places.{live-from, copy-from}, View.view}
+use Rattle.restart.specs.{declared.resend.Outgoing.Outgoing, declared.resend.Outgoing.the-variants.{Nothing, Send}, Stored.{span, job-at, live-log, copy-log}}
 
 -- none or one
 unfoldable pub packets-of : Message → Outgoing → List Packet

@@ -1,25 +1,13 @@
 -- What a chare has after the restart: its copy, with another table and the top of that.
-use mathlib.Core.Path.{_≡_, sym, ap, _∙_}
-use mathlib.Core.List.{List}
-use Prim.Native.Nat.{ℕ, _+_, _-_, _<_, _≤_}
-use native.Mathlib.Omega.{arith}
-use native.Mathlib.Nat.{mod-eq-of-lt}
-use lib.ListN.{length, set, length-set}
-use lib.Seq.{getD-set-same, getD-set-other}
+use Rattle.lists.specs.Basics.{_≡_, sym, ap, _∙_, List, ℕ, _+_, _-_, _<_, _≤_, arith, mod-eq-of-lt, length, set, length-set, getD-set-same, getD-set-other}
 use Rattle.lists.specs.Map.{upd}
-use Rattle.protocol.specs.declared.Entry.{Entry}
-use Rattle.protocol.specs.Parts.{Memory, State, with-table, with-top, with-live, with-status}
-use Rattle.protocol.specs.Tickets.{highest, lowest-hole}
-use Rattle.protocol.specs.Restart.{target-of, below-hole}
-use Rattle.words.specs.Part.{part, put, part-length, part-put, put-length, put-again}
-use Rattle.words.specs.PartSet.{part-set, part-set-before}
+use Rattle.protocol.specs.{declared.Entry.Entry, Parts.{Memory, State, with-table, with-top, with-live, with-status}, Tickets.{highest, lowest-hole}}
+use Rattle.protocol.specs.{Restart.{target-of, below-hole}}
+use Rattle.words.specs.{Part.{part, put, part-length, part-put, put-length, put-again}, PartSet.{part-set, part-set-before}}
 use Rattle.head.specs.Head.{TARGET}
 use Rattle.tickets.specs.Table.{entries}
-use Rattle.memory.specs.Places.{STATE, HEIGHT, TOP, NUMBERS, SN, MARK, WINDOW, TABLE, ROW, LOG, MEMORY}
-use Rattle.memory.specs.View.{memory-view, table-put}
-use Rattle.store.specs.Places.{STORE, live-from, copy-from}
-use Rattle.store.specs.View.{view}
-use Rattle.store.specs.ViewLaws.{copy-at, live-put, live-length, target-set}
+use Rattle.memory.specs.{Places.{STATE, HEIGHT, TOP, NUMBERS, SN, MARK, WINDOW, TABLE, ROW, LOG, MEMORY}, View.{memory-view, table-put}}
+use Rattle.store.specs.{Places.{STORE, live-from, copy-from}, View.view, ViewLaws.{copy-at, live-put, live-length, target-set}}
 
 -- the memory m with the table l
 unfoldable pub renewed : Memory → List Entry → Memory

@@ -1,27 +1,14 @@
 -- Packets put on a wire of 128 one by one, where there was room for them all.
-use mathlib.Core.Path.{_≡_, refl, sym, ap, _∙_}
-use mathlib.Core.Bool.{Bool, true, false}
-use mathlib.Core.List.{List, [], _∷_, _++_, append-assoc, append-nil, map}
-use mathlib.Core.Option.{Option}
-use Prim.Native.Nat.{ℕ, _+_, _-_, _<_, _≤_}
-use native.Mathlib.Omega.{arith}
-use borrow.Author.Tests.{le-leb, lt-leb}
-use lib.ListN.{length, length-append}
+use Rattle.lists.specs.Basics.{_≡_, refl, sym, ap, _∙_, Bool, true, false, List, [], _∷_, _++_, append-assoc, append-nil, map, Option, ℕ, _+_, _-_, _<_, _≤_, arith, le-leb, lt-leb}
+use Rattle.lists.specs.Basics.{length, length-append}
 use Rattle.lists.specs.Lists.{gather}
 use Rattle.arrays.specs.Front.{push, push-fits}
-use Rattle.protocol.specs.declared.Content.{Content}
-use Rattle.protocol.specs.declared.Logged.{Logged}
-use Rattle.protocol.specs.declared.Message.{Message}
-use Rattle.protocol.specs.declared.Packet.{Packet}
-use Rattle.protocol.specs.Parts.{State}
-use Rattle.protocol.specs.Sending.{about}
+use Rattle.protocol.specs.{declared.Content.Content, declared.Logged.Logged, declared.Message.Message, declared.Packet.Packet, Parts.State, Sending.about}
 use Rattle.logs.specs.Fits.{Fits}
 use Rattle.packets.specs.Words.{fitted, packets}
 use Rattle.store.specs.Places.{PACKETS}
-use Rattle.restart.specs.declared.resend.Outgoing.{Outgoing}
-use Rattle.restart.specs.declared.resend.Outgoing.the-variants.{Nothing, Send}
-use Rattle.restart.specs.Limited.{held, limit, more, more-one, more-limit, more-end, more-on, more-stop, steps}
-use Rattle.restart.specs.Resends.{packets-of, again, again-fits}
+use Rattle.restart.specs.{declared.resend.Outgoing.Outgoing, declared.resend.Outgoing.the-variants.{Nothing, Send}}
+use Rattle.restart.specs.{Limited.{held, limit, more, more-one, more-limit, more-end, more-on, more-stop, steps}, Resends.{packets-of, again, again-fits}}
 
 abbrev pub one-more : List Packet → Packet → List Packet
 one-more l x = l ++ (x ∷ [])

@@ -1,32 +1,18 @@
 -- What a chare of p gets back is made from: its copy, the logs of other machines and the desk's, the notes kept for p. Each is gone through
 -- once, and each element has a ticket or none.
-use mathlib.Core.Path.{_≡_, refl, sym, ap}
-use mathlib.Core.Bool.{Bool, true, false}
-use mathlib.Core.List.{List, [], _∷_, _++_}
-use Prim.Native.Nat.{ℕ, _+_, _<_, _≤_}
-use borrow.Author.Tests.{eq-eqb, ne-eqb, lt-ltb, le-ltb}
-use lib.Dec.{ltb}
-use lib.ListN.{getD}
+use Rattle.lists.specs.Basics.{_≡_, refl, sym, ap, Bool, true, false, List, [], _∷_, _++_, ℕ, _+_, _<_, _≤_, eq-eqb, ne-eqb, lt-ltb, le-ltb, ltb, getD}
 use Rattle.lists.specs.Lists.{gather}
-use Rattle.protocol.specs.declared.Entry.{Entry}
-use Rattle.protocol.specs.declared.Logged.{Logged}
-use Rattle.protocol.specs.declared.Note.{Note}
-use Rattle.protocol.specs.Parts.{State, on, every-sender}
-use Rattle.protocol.specs.Tickets.{unreceived}
-use Rattle.protocol.specs.Restart.{known-tickets, other-log, local-log, copied-ticket, logged-ticket, noted-ticket, is-ticketed-above, is-noted-above}
-use Rattle.tickets.specs.Table.{entry-of, entries}
-use Rattle.tickets.specs.EntryLaws.{sender-small}
-use Rattle.tickets.specs.Fits.{entry-at}
+use Rattle.protocol.specs.{declared.Entry.Entry, declared.Logged.Logged, declared.Note.Note, Parts.{State, on, every-sender}, Tickets.unreceived}
+use Rattle.protocol.specs.{Restart.{known-tickets, other-log, local-log, copied-ticket, logged-ticket, noted-ticket, is-ticketed-above, is-noted-above}}
+use Rattle.tickets.specs.{Table.{entry-of, entries}, EntryLaws.sender-small, Fits.entry-at}
 use Rattle.logs.specs.Log.{logged-of, entries as messages}
-use Rattle.logs.specs.Fits as logs
 use Rattle.notelist.specs.Notes.{note-of, notes}
-use Rattle.notelist.specs.Fits as notelist
 use Rattle.head.specs.Head.{job-of}
 use Rattle.memory.specs.Places.{LOG, MEMORY}
-use Rattle.store.specs.Places.{live-from, copy-from}
-use Rattle.store.specs.View.{view}
-use Rattle.restart.specs.Stored.{span, job-at, live-log, copy-log}
-use Rattle.restart.specs.Gather.{chosen, chosen-yes, chosen-no, gather-each, gather-chosen, gather-gather}
+use Rattle.store.specs.{Places.{live-from, copy-from}, View.view}
+use Rattle.restart.specs.{Stored.{span, job-at, live-log, copy-log}, Gather.{chosen, chosen-yes, chosen-no, gather-each, gather-chosen, gather-gather}}
+use Rattle.logs.specs.Fits as logs
+use Rattle.notelist.specs.Fits as notelist
 
 -- what the copy's entries, the messages of a log and the notes add
 unfoldable pub copied : Entry → List Entry

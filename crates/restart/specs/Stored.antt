@@ -1,21 +1,12 @@
 -- Logs, tables and heights of a store's view, by the places that they stand at.
-use mathlib.Core.Path.{_≡_, refl, ap, _∙_}
-use mathlib.Core.List.{List}
-use Prim.Native.Nat.{ℕ, _+_, _-_, _≤_, _<_}
-use native.Mathlib.Omega.{arith}
-use lib.ListN.{take, drop}
-use lib.Seq.{drop-drop}
+use Rattle.lists.specs.Basics.{_≡_, refl, ap, _∙_, List, ℕ, _+_, _-_, _≤_, _<_, arith, take, drop, drop-drop}
 use Rattle.words.specs.Part.{part}
-use Rattle.head.specs.Head.{job-of}
-use Rattle.head.specs.Kept.{part-front}
+use Rattle.head.specs.{Head.job-of, Kept.part-front}
+use Rattle.notelist.specs.Notes.{notes}
+use Rattle.memory.specs.{Places.{TABLE, ROW, LOG, MEMORY}, View.{memory-view, log-part, table-part}}
+use Rattle.store.specs.{Places.{NOTELIST, live-from, copy-from, notes-from}, View.view, ViewLaws.{live-at, copy-at, notes-at}}
 use Rattle.tickets.specs.Table as tickets
 use Rattle.logs.specs.Log as logs
-use Rattle.notelist.specs.Notes.{notes}
-use Rattle.memory.specs.Places.{TABLE, ROW, LOG, MEMORY}
-use Rattle.memory.specs.View.{memory-view, log-part, table-part}
-use Rattle.store.specs.Places.{NOTELIST, live-from, copy-from, notes-from}
-use Rattle.store.specs.View.{view}
-use Rattle.store.specs.ViewLaws.{live-at, copy-at, notes-at}
 
 -- from a up to e, as it is lent
 abbrev pub span : ℕ → ℕ → List ℕ → List ℕ

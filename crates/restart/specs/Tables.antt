@@ -1,17 +1,7 @@
 -- Tickets entered one by one into a table of 16, where there was room for them all.
-use mathlib.Core.Path.{_≡_, refl, sym, ap, _∙_}
-use mathlib.Core.Bool.{Bool, true, false}
-use mathlib.Core.List.{List, [], _∷_, _++_}
-use mathlib.Core.Option.{Option}
-use Prim.Native.Nat.{ℕ, _-_, _%_, _<_, _≤_}
-use native.Mathlib.Omega.{arith}
-use native.Mathlib.Nat.{mod-eq-of-lt}
-use lib.ListN.{length, length-append}
-use Rattle.lists.specs.Tests.{either}
-use Rattle.lists.specs.Lists.{anyb, gather}
-use Rattle.protocol.specs.declared.Entry.{Entry}
-use Rattle.protocol.specs.Tickets.{for-message, unreceived}
-use Rattle.protocol.specs.Restart.{enter, enter-all}
+use Rattle.lists.specs.Basics.{_≡_, refl, sym, ap, _∙_, Bool, true, false, List, [], _∷_, _++_, Option, ℕ, _-_, _%_, _<_, _≤_, arith, mod-eq-of-lt, length, length-append}
+use Rattle.lists.specs.{Tests.either, Lists.{anyb, gather}}
+use Rattle.protocol.specs.{declared.Entry.Entry, Tickets.{for-message, unreceived}, Restart.{enter, enter-all}}
 use Rattle.memory.specs.Places.{ROW}
 use Rattle.tickets.specs.Table.{entries, Entering}
 use Rattle.restart.specs.Limited.{held, limit, held-cond, more, more-none, more-one, more-append, more-limit, more-end, more-on, more-stop, more-skip, steps}

@@ -1,38 +1,15 @@
 -- A restart put together: the tables in rows, the wire beside the store, and the store changed by both.
-use mathlib.Core.Path.{_≡_, refl, sym, ap, _∙_, fun-ext}
-use mathlib.Core.Bool.{Bool, true, false, not}
-use mathlib.Core.List.{List, _++_}
-use mathlib.Core.Logic.{_≢_}
-use Prim.Native.Nat.{ℕ, _+_, _<_, _≤_}
-use native.Mathlib.Omega.{arith}
-use lib.Dec.{eqb}
-use lib.ListN.{length, set}
-use Rattle.lists.specs.Tests.{either}
-use Rattle.lists.specs.Lists.{keep, gather}
-use Rattle.lists.specs.Map.{upd}
-use Rattle.lists.specs.Questions.{first-no}
-use Rattle.protocol.specs.declared.Answer.the-variants.{Accepted, Refused}
-use Rattle.protocol.specs.declared.Packet.{Packet}
-use Rattle.protocol.specs.declared.Status.the-variants.{CatchingUp}
-use Rattle.protocol.specs.Parts.{State, on, at-home, every-sender, with-status, with-wire, is-down}
-use Rattle.protocol.specs.Packets.{goes-to}
-use Rattle.protocol.specs.Restart.{restart, restore, restored, target-of}
-use Rattle.protocol.specs.Questions.{restart-questions, is-machine, wire-fits}
+use Rattle.lists.specs.Basics.{_≡_, refl, sym, ap, _∙_, fun-ext, Bool, true, false, not, List, _++_, _≢_, ℕ, _+_, _<_, _≤_, arith, eqb, length, set}
+use Rattle.lists.specs.{Tests.either, Lists.{keep, gather}, Map.upd, Questions.first-no}
+use Rattle.protocol.specs.{declared.Answer.the-variants.{Accepted, Refused}, declared.Packet.Packet, declared.Status.the-variants.CatchingUp}
+use Rattle.protocol.specs.{Parts.{State, on, at-home, every-sender, with-status, with-wire, is-down}, Packets.goes-to, Restart.{restart, restore, restored, target-of}}
+use Rattle.protocol.specs.{Questions.{restart-questions, is-machine, wire-fits}}
 use Rattle.words.specs.Part.{part, put}
 use Rattle.head.specs.Head.{STATUS, as-status, job-of}
-use Rattle.packets.specs.Words.{packets}
-use Rattle.packets.specs.Fits.{packets-fit}
-use Rattle.store.specs.Places.{WIRE, PACKETS, STORE}
-use Rattle.store.specs.View.{view, outcome, tried, Framed}
-use Rattle.store.specs.ViewLaws.{status-set, wire-put}
-use Rattle.store.specs.Framing.{machine-in}
-use Rattle.restart.specs.Limited.{held, limit, held-true, held-fits}
-use Rattle.restart.specs.OnMachine.{on-first, on-last}
-use Rattle.restart.specs.Restored.{renewed}
-use Rattle.restart.specs.Homes.{AllTables, new-memory, all-back}
-use Rattle.restart.specs.Resends.{all-again, resends-is}
-use Rattle.restart.specs.Sent.{putting, putting-all}
-use Rattle.restart.specs.Judged.{asked, early, no-tables, no-wire, all-fit}
+use Rattle.packets.specs.{Words.packets, Fits.packets-fit}
+use Rattle.store.specs.{Places.{WIRE, PACKETS, STORE}, View.{view, outcome, tried, Framed}, ViewLaws.{status-set, wire-put}, Framing.machine-in}
+use Rattle.restart.specs.{Limited.{held, limit, held-true, held-fits}, OnMachine.{on-first, on-last}, Restored.renewed, Homes.{AllTables, new-memory, all-back}}
+use Rattle.restart.specs.{Resends.{all-again, resends-is}, Sent.{putting, putting-all}, Judged.{asked, early, no-tables, no-wire, all-fit}}
 
 -- p is catching up, its chares have the tables in the rows, and w is on the wire
 unfoldable pub back : State → ℕ → List ℕ → List Packet → State

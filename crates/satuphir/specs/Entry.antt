@@ -1,11 +1,6 @@
 -- The count that a caller in C gets, and what its buffer then holds.
-use mathlib.Core.Bool.{true, false, cond}
-use mathlib.Core.List.{List, _++_}
-use mathlib.Core.Path.{_≡_, sym, ap, _∙_}
-use Prim.Native.Nat.{ℕ}
-use lib.ListN.{length, drop}
-use Rattle.transcript.specs.View.{enough, whole-output, Transcribed}
-use Rattle.transcript.specs.declared.Ended.{Ended}
+use Rattle.lists.specs.Basics.{true, false, cond, List, _++_, _≡_, sym, ap, _∙_, ℕ, length, drop}
+use Rattle.transcript.specs.{View.{enough, whole-output, Transcribed}, declared.Ended.Ended}
 use Rattle.protocol.specs.Step.{answers}
 
 -- the largest number of 64 bits: the buffer has no room for all answers

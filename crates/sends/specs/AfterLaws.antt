@@ -1,17 +1,9 @@
 -- What a send leaves: memories, counts, lengths.
-use mathlib.Core.Path.{_≡_, refl, ap, _∙_}
-use mathlib.Core.Logic.{_≢_}
-use mathlib.Core.List.{List}
-use Prim.Native.Nat.{ℕ, _+_}
-use lib.ListN.{length, length-append}
+use Rattle.lists.specs.Basics.{_≡_, refl, ap, _∙_, _≢_, List, ℕ, _+_, length, length-append}
 use Rattle.lists.specs.Map.{upd, upd-ind, upd-same, upd-other}
-use Rattle.protocol.specs.declared.Entry.{Entry}
-use Rattle.protocol.specs.declared.Message.{Message}
-use Rattle.protocol.specs.Parts.{State, Memory, with-table}
-use Rattle.sends.specs.declared.ticket.Ticket.{Ticket}
-use Rattle.sends.specs.declared.ticket.Ticket.the-variants.{Remote, Found, New, TooHigh}
-use Rattle.sends.specs.Ticket.{growth, table-after, packets-of, logged}
-use Rattle.sends.specs.Sent.{ticketed, sent}
+use Rattle.protocol.specs.{declared.Entry.Entry, declared.Message.Message, Parts.{State, Memory, with-table}}
+use Rattle.sends.specs.{declared.ticket.Ticket.Ticket, declared.ticket.Ticket.the-variants.{Remote, Found, New, TooHigh}, Ticket.{growth, table-after, packets-of, logged}}
+use Rattle.sends.specs.{Sent.{ticketed, sent}}
 
 grown : (m : Message) (k : Ticket) → length (packets-of m k) ≡ growth k
 unfolding packets-of growth

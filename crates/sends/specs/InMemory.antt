@@ -1,27 +1,15 @@
 -- What a send leaves of a memory and of the wire, from what the functions on their rows answer.
-use mathlib.Core.Path.{_≡_, _∙_}
-use mathlib.Core.List.{List}
-use Prim.Native.Nat.{ℕ, _+_, _-_, _%_, _<_}
-use native.Mathlib.Omega.{arith}
-use native.Mathlib.Nat.{mod-eq-of-lt}
-use lib.ListN.{length, set, length-set}
+use Rattle.lists.specs.Basics.{_≡_, _∙_, List, ℕ, _+_, _-_, _%_, _<_, arith, mod-eq-of-lt, length, set, length-set}
 use Rattle.arrays.specs.Front.{push}
-use Rattle.protocol.specs.declared.Message.{Message}
-use Rattle.protocol.specs.declared.Content.{Content}
-use Rattle.protocol.specs.Parts.{with-table}
-use Rattle.protocol.specs.Sending.{about, local-entry}
-use Rattle.protocol.specs.Tickets.{filled}
+use Rattle.protocol.specs.{declared.Message.Message, declared.Content.Content, Parts.with-table, Sending.{about, local-entry}, Tickets.filled}
 use Rattle.words.specs.Part.{part, put, part-length}
+use Rattle.packets.specs.Fits.{fits-same}
+use Rattle.memory.specs.{Places.{SN, TABLE, ROW, LOG, MEMORY}, Numbers.sn-set, View.{memory-view, log-changed, table-changed}}
+use Rattle.sends.specs.{declared.ticket.Ticket.the-variants.{Found, New}, Ticket.{to-table, to-log}}
 use Rattle.tickets.specs.Table as tickets
 use Rattle.logs.specs.Log as logs
 use Rattle.logs.specs.Fits as log-fits
 use Rattle.packets.specs.Words as packets
-use Rattle.packets.specs.Fits.{fits-same}
-use Rattle.memory.specs.Places.{SN, TABLE, ROW, LOG, MEMORY}
-use Rattle.memory.specs.Numbers.{sn-set}
-use Rattle.memory.specs.View.{memory-view, log-changed, table-changed}
-use Rattle.sends.specs.declared.ticket.Ticket.the-variants.{Found, New}
-use Rattle.sends.specs.Ticket.{to-table, to-log}
 
 -- ---- the receiver's memory
 module _ (ws ys : List ℕ) (size : length ws ≡ MEMORY) (long : length ys ≡ ROW) (m : Message) (t : ℕ) (h-in : m .hops < 8) where

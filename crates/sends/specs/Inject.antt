@@ -1,26 +1,11 @@
 -- Frame 10: the desk's message. From 7 on its questions are those of one send.
-use mathlib.Core.Path.{_≡_, sym, _∙_}
-use mathlib.Core.Bool.{Bool, true, not, _&&_}
-use mathlib.Core.List.{List, [], _∷_, _++_}
-use Prim.Native.Nat.{ℕ, _<_}
-use native.Mathlib.Omega.{arith}
-use borrow.Author.Tests.{leb-true}
-use lib.Dec.{leb}
-use Rattle.lists.specs.Questions.{asks, first-no, first-no-yes}
-use Rattle.lists.specs.Tests.{and-l, and-r}
-use Rattle.protocol.specs.declared.Answer.the-variants.{Accepted, Refused}
-use Rattle.protocol.specs.Frames.{between}
-use Rattle.protocol.specs.Parts.{State}
-use Rattle.protocol.specs.Questions.{inject-questions, is-chare, numbers-fit, window-admits, log-has-room, table-has-room, put-to-all}
-use Rattle.protocol.specs.Sending.{send, send-all}
-use Rattle.protocol.specs.Step.{Outcome}
+use Rattle.lists.specs.Basics.{_≡_, sym, _∙_, Bool, true, not, _&&_, List, [], _∷_, _++_, ℕ, _<_, arith, leb-true, leb}
+use Rattle.lists.specs.{Questions.{asks, first-no, first-no-yes}, Tests.{and-l, and-r}}
+use Rattle.protocol.specs.{declared.Answer.the-variants.{Accepted, Refused}, Frames.between, Parts.State}
+use Rattle.protocol.specs.{Questions.{inject-questions, is-chare, numbers-fit, window-admits, log-has-room, table-has-room, put-to-all}, Sending.{send, send-all}, Step.Outcome}
 use Rattle.head.specs.Head.{job-of, lost-of}
-use Rattle.store.specs.View.{view, tried, Framed}
-use Rattle.store.specs.Framing.{refuses as refused, accepts as accepted}
-use Rattle.sends.specs.Made.{Made, sends-made, sends-refused}
-use Rattle.sends.specs.Sends.{sends-questions, tried-sends, and-true}
-use Rattle.sends.specs.Verdict.{stopped, passed}
-use Rattle.sends.specs.Reading.{chare-in}
+use Rattle.store.specs.{View.{view, tried, Framed}, Framing.{refuses as refused, accepts as accepted}}
+use Rattle.sends.specs.{Made.{Made, sends-made, sends-refused}, Sends.{sends-questions, tried-sends, and-true}, Verdict.{stopped, passed}, Reading.chare-in}
 
 -- 2 to 5
 unfoldable pub desk-questions : State → ℕ → ℕ → List Bool

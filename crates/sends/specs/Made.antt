@@ -1,27 +1,13 @@
 -- The sends of a chare, judged and made where the store stands.
-use mathlib.Core.Path.{_≡_, refl, sym, _∙_}
-use mathlib.Core.List.{List, [], _∷_}
-use Prim.Native.Nat.{ℕ}
-use borrow.Author.Tests.{eq-eqb, ne-eqb, le-leb}
-use lib.ListN.{length}
+use Rattle.lists.specs.Basics.{_≡_, refl, sym, _∙_, List, [], _∷_, ℕ, eq-eqb, ne-eqb, le-leb, length}
 use Rattle.lists.specs.Questions.{first-no}
-use Rattle.protocol.specs.declared.Answer.the-variants.{Accepted, Refused}
-use Rattle.protocol.specs.Parts.{State, Job}
-use Rattle.protocol.specs.Sending.{send, send-all, next-message}
-use Rattle.protocol.specs.Work.{receivers, ports, port}
-use Rattle.protocol.specs.Questions.{put-to-all, wire-fits}
-use Rattle.store.specs.Places.{STORE}
-use Rattle.store.specs.View.{view, outcome}
-use Rattle.sends.specs.declared.plan.Plan.{Plan}
-use Rattle.sends.specs.declared.ticket.Ticket.{Ticket}
-use Rattle.sends.specs.Plan.{plan-of, plan-after}
-use Rattle.sends.specs.Reading.{wire-top}
-use Rattle.sends.specs.Room.{sn-room}
-use Rattle.sends.specs.Sends.{one-verdict, two-verdict, sends-questions, tried-sends, one-judged, two-judged}
-use Rattle.sends.specs.Sendable.{Sendable, one-sendable, first-sendable, second-sendable, sn-low, is-sent, ready}
-use Rattle.sends.specs.Stored.{to-sent, room-sent}
-use Rattle.sends.specs.Ticket.{message-after}
-use Rattle.sends.specs.Verdict.{judged-no, judged-yes}
+use Rattle.protocol.specs.{declared.Answer.the-variants.{Accepted, Refused}, Parts.{State, Job}, Sending.{send, send-all, next-message}, Work.{receivers, ports, port}}
+use Rattle.protocol.specs.{Questions.{put-to-all, wire-fits}}
+use Rattle.store.specs.{Places.STORE, View.{view, outcome}}
+use Rattle.sends.specs.{declared.plan.Plan.Plan, declared.ticket.Ticket.Ticket, Plan.{plan-of, plan-after}, Reading.wire-top, Room.sn-room}
+use Rattle.sends.specs.{Sends.{one-verdict, two-verdict, sends-questions, tried-sends, one-judged, two-judged}}
+use Rattle.sends.specs.{Sendable.{Sendable, one-sendable, first-sendable, second-sendable, sn-low, is-sent, ready}, Stored.{to-sent, room-sent}, Ticket.message-after}
+use Rattle.sends.specs.{Verdict.{judged-no, judged-yes}}
 
 -- n is the first question answered "no", and then no word changes; 0 is none, and then the messages are sent
 pub record Made (before after : List ℕ) (a : ℕ) (l : List ℕ) (v h n : ℕ) : Type 0 where

@@ -1,16 +1,8 @@
 -- The TN of a second new ticket in one table: the first one's takes the place of the height.
-use mathlib.Core.Path.{_≡_, refl, sym, ap, _∙_}
-use mathlib.Core.Bool.{Bool, true, false, _||_}
-use mathlib.Core.List.{List, [], _∷_, _++_}
-use mathlib.Core.Option.{Option, some, none}
-use Prim.Native.Nat.{ℕ, zero, suc, _+_, _-_, _<_, _≤_, max}
-use native.Mathlib.Omega.{arith}
-use native.Mathlib.Numerals.{add-one}
-use borrow.Author.Tests.{eq-eqb, ne-eqb}
-use Rattle.lists.specs.Tests.{either, true-not-false}
-use Rattle.lists.specs.Lists.{anyb}
-use Rattle.protocol.specs.declared.Entry.{Entry}
-use Rattle.protocol.specs.Tickets.{has-tn, highest, first-free, lowest-hole, hole-or, next-tn}
+use Rattle.lists.specs.Basics.{_≡_, refl, sym, ap, _∙_, Bool, true, false, _||_, List, [], _∷_, _++_, Option, some, none, ℕ, zero, suc, _+_, _-_, _<_, _≤_, max, arith, add-one}
+use Rattle.lists.specs.Basics.{eq-eqb, ne-eqb}
+use Rattle.lists.specs.{Tests.{either, true-not-false}, Lists.anyb}
+use Rattle.protocol.specs.{declared.Entry.Entry, Tickets.{has-tn, highest, first-free, lowest-hole, hole-or, next-tn}}
 use Rattle.tickets.specs.Holes.{hole-above}
 
 -- ---- one more entry at the end

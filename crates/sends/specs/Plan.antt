@@ -1,19 +1,7 @@
 -- What a send needs to know before it is made: its ticket, and what the questions 7, 8 and 10 say of it.
-use mathlib.Core.Bool.{Bool, true, false, cond}
-use mathlib.Core.List.{List}
-use mathlib.Core.Option.{Option, some, none}
-use Prim.Native.Nat.{ℕ, _+_}
-use lib.Dec.{eqb, ltb, leb}
-use lib.ListN.{length}
-use Rattle.protocol.specs.declared.Entry.{Entry}
-use Rattle.protocol.specs.Parts.{State, Memory}
-use Rattle.protocol.specs.Window.{admitted}
-use Rattle.protocol.specs.Tickets.{entry, next-tn}
-use Rattle.protocol.specs.Sending.{is-local}
-use Rattle.sends.specs.declared.ticket.Ticket.{Ticket}
-use Rattle.sends.specs.declared.ticket.Ticket.the-variants.{Remote, Found, New, TooHigh}
-use Rattle.sends.specs.Ticket.{sn-next}
-use Rattle.sends.specs.declared.plan.Plan.{Plan}
+use Rattle.lists.specs.Basics.{Bool, true, false, cond, List, Option, some, none, ℕ, _+_, eqb, ltb, leb, length}
+use Rattle.protocol.specs.{declared.Entry.Entry, Parts.{State, Memory}, Window.admitted, Tickets.{entry, next-tn}, Sending.is-local}
+use Rattle.sends.specs.{declared.ticket.Ticket.Ticket, declared.ticket.Ticket.the-variants.{Remote, Found, New, TooHigh}, Ticket.sn-next, declared.plan.Plan.Plan}
 
 -- no new ticket
 unfoldable pub idle : Ticket → Plan

@@ -1,26 +1,10 @@
 -- What a plan says: the definitions' answers on its send, and what the send does.
-use mathlib.Core.Path.{_≡_, refl, sym, _∙_}
-use mathlib.Core.Bool.{true, false}
-use mathlib.Core.Option.{Option, some, none}
-use Prim.Native.Nat.{ℕ, _+_, _<_, _≤_}
-use native.Mathlib.Omega.{arith}
-use borrow.Author.Tests.{ltb-true, ltb-false, lt-leb, le-leb}
-use lib.Dec.{ltb, leb}
-use lib.ListN.{length}
+use Rattle.lists.specs.Basics.{_≡_, refl, sym, _∙_, true, false, Option, some, none, ℕ, _+_, _<_, _≤_, arith, ltb-true, ltb-false, lt-leb, le-leb, ltb, leb, length}
 use Rattle.lists.specs.Tests.{either, true-not-false}
-use Rattle.protocol.specs.declared.Entry.{Entry}
-use Rattle.protocol.specs.Parts.{State}
-use Rattle.protocol.specs.Window.{admitted}
-use Rattle.protocol.specs.Tickets.{entry, new-tn}
-use Rattle.protocol.specs.Sending.{is-local, send, next-message}
-use Rattle.protocol.specs.Questions.{numbers-fit, window-admits, table-has-room, takes-ticket, no-entry, sn-to-send}
-use Rattle.sends.specs.declared.ticket.Ticket.{Ticket}
-use Rattle.sends.specs.declared.ticket.Ticket.the-variants.{Remote, Found, New, TooHigh}
-use Rattle.sends.specs.declared.plan.Plan.{Plan}
-use Rattle.sends.specs.Ticket.{fits, is-new}
-use Rattle.sends.specs.Sent.{sent}
-use Rattle.sends.specs.SentLaws.{remote-sent, found-sent, new-sent}
-use Rattle.sends.specs.Plan.{idle, new-plan, local-plan, plan-for, plan-of}
+use Rattle.protocol.specs.{declared.Entry.Entry, Parts.State, Window.admitted, Tickets.{entry, new-tn}, Sending.{is-local, send, next-message}}
+use Rattle.protocol.specs.{Questions.{numbers-fit, window-admits, table-has-room, takes-ticket, no-entry, sn-to-send}}
+use Rattle.sends.specs.{declared.ticket.Ticket.Ticket, declared.ticket.Ticket.the-variants.{Remote, Found, New, TooHigh}, declared.plan.Plan.Plan, Ticket.{fits, is-new}}
+use Rattle.sends.specs.{Sent.sent, SentLaws.{remote-sent, found-sent, new-sent}, Plan.{idle, new-plan, local-plan, plan-for, plan-of}}
 
 pub record Judges (s : State) (a b : ℕ) (p : Plan) : Type 0 where
   pub numbers : numbers-fit s a b ≡ fits (p .ticket)

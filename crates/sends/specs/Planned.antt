@@ -1,22 +1,12 @@
 -- The plan of a send, read from the store.
-use mathlib.Core.Path.{_≡_, _∙_}
-use mathlib.Core.Bool.{Bool, false}
-use mathlib.Core.List.{List}
-use Prim.Native.Nat.{ℕ, _<_}
-use lib.Dec.{eqb}
+use Rattle.lists.specs.Basics.{_≡_, _∙_, Bool, false, List, ℕ, _<_, eqb}
 use Rattle.protocol.specs.Sending.{is-local}
 use Rattle.words.specs.Part.{part}
 use Rattle.head.specs.Head.{job-of}
-use Rattle.memory.specs.Places.{MEMORY}
-use Rattle.memory.specs.View.{memory-view}
-use Rattle.store.specs.Places.{live-from}
-use Rattle.store.specs.View.{view}
-use Rattle.store.specs.ViewLaws.{live-at}
-use Rattle.sends.specs.declared.plan.Plan.{Plan}
-use Rattle.sends.specs.declared.ticket.Ticket.{Ticket}
-use Rattle.sends.specs.declared.ticket.Ticket.the-variants.{Remote}
-use Rattle.sends.specs.Reading.{job-at}
-use Rattle.sends.specs.Plan.{plan-for, plan-of, plan-after, last-after, base-after, extra-after}
+use Rattle.memory.specs.{Places.MEMORY, View.memory-view}
+use Rattle.store.specs.{Places.live-from, View.view, ViewLaws.live-at}
+use Rattle.sends.specs.{declared.plan.Plan.Plan, declared.ticket.Ticket.Ticket, declared.ticket.Ticket.the-variants.Remote, Reading.job-at}
+use Rattle.sends.specs.{Plan.{plan-for, plan-of, plan-after, last-after, base-after, extra-after}}
 
 module _ (xs : List ℕ) (a b : ℕ) (b-in : b < 13) (near : Bool) (near-is : near ≡ is-local (job-of xs) a b) (last : ℕ) (p : Plan) where
   pub plan-at : last ≡ view xs .live a .sn b

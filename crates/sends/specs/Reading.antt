@@ -1,27 +1,16 @@
 -- What is read of a store: its head and the places of its memories, in the view's words, and how much its rows can hold.
-use mathlib.Core.Path.{_≡_, refl}
-use mathlib.Core.Bool.{true}
-use mathlib.Core.List.{List}
-use Prim.Native.Nat.{ℕ, _+_, _-_, _<_, _≤_}
-use native.Mathlib.Omega.{arith}
-use borrow.Author.Tests.{leb-true}
-use lib.Dec.{leb}
-use lib.ListN.{length}
+use Rattle.lists.specs.Basics.{_≡_, refl, true, List, ℕ, _+_, _-_, _<_, _≤_, arith, leb-true, leb, length}
 use Rattle.lists.specs.Tests.{and-r}
 use Rattle.protocol.specs.Frames.{between}
 use Rattle.words.specs.Part.{part, part-length}
-use Rattle.head.specs.Head.{job-of}
-use Rattle.head.specs.HeadLaws.{chares-top}
+use Rattle.head.specs.{Head.job-of, HeadLaws.chares-top}
+use Rattle.packets.specs.{Words.packets, Fits.packets-fit}
+use Rattle.memory.specs.Places.{TABLE, LOG, ROW, MEMORY}
+use Rattle.store.specs.{Places.{WIRE, PACKETS, STORE, live-from}, View.view, ViewLaws.wire-at}
 use Rattle.tickets.specs.Table as tickets
 use Rattle.tickets.specs.Fits as table-fits
 use Rattle.logs.specs.Log as logs
 use Rattle.logs.specs.Fits as log-fits
-use Rattle.packets.specs.Words.{packets}
-use Rattle.packets.specs.Fits.{packets-fit}
-use Rattle.memory.specs.Places.{TABLE, LOG, ROW, MEMORY}
-use Rattle.store.specs.Places.{WIRE, PACKETS, STORE, live-from}
-use Rattle.store.specs.View.{view}
-use Rattle.store.specs.ViewLaws.{wire-at}
 
 pub job-at : (xs : List ℕ) → view xs .job ≡ job-of xs
 unfolding view

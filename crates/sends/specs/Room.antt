@@ -1,20 +1,9 @@
 -- A send adds at most one, and where there is room it is added.
-use mathlib.Core.Path.{_≡_, refl, sym}
-use mathlib.Core.Bool.{Bool, true, false}
-use mathlib.Core.List.{List, _++_, append-nil}
-use Prim.Native.Nat.{ℕ, _+_, _<_, _≤_}
-use native.Mathlib.Omega.{arith}
-use borrow.Author.Tests.{lt-ltb}
-use lib.ListN.{length}
+use Rattle.lists.specs.Basics.{_≡_, refl, sym, Bool, true, false, List, _++_, append-nil, ℕ, _+_, _<_, _≤_, arith, lt-ltb, length}
 use Rattle.arrays.specs.Front.{push-fits}
-use Rattle.protocol.specs.declared.Entry.{Entry}
-use Rattle.protocol.specs.declared.Message.{Message}
-use Rattle.protocol.specs.declared.Packet.{Packet}
-use Rattle.protocol.specs.Parts.{Memory}
-use Rattle.sends.specs.declared.ticket.Ticket.{Ticket}
-use Rattle.sends.specs.declared.ticket.Ticket.the-variants.{Remote, Found, New, TooHigh}
-use Rattle.sends.specs.Ticket.{is-new, grows, growth, sn-next, table-after, to-table, packets-of, to-wire, logged, to-log}
-use Rattle.sends.specs.Plan.{extra-after}
+use Rattle.protocol.specs.{declared.Entry.Entry, declared.Message.Message, declared.Packet.Packet, Parts.Memory}
+use Rattle.sends.specs.{declared.ticket.Ticket.Ticket, declared.ticket.Ticket.the-variants.{Remote, Found, New, TooHigh}}
+use Rattle.sends.specs.{Ticket.{is-new, grows, growth, sn-next, table-after, to-table, packets-of, to-wire, logged, to-log}, Plan.extra-after}
 
 -- ---- what a send adds
 pub growth-top : (k : Ticket) → growth k ≤ 1

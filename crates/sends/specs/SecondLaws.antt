@@ -1,31 +1,12 @@
 -- The plan of a second send, after a first one.
-use mathlib.Core.Path.{_≡_, refl, sym, ap}
-use mathlib.Core.Bool.{Bool, true, false}
-use mathlib.Core.Logic.{_≢_, inl, inr}
-use mathlib.Core.List.{List, [], _∷_, _++_}
-use mathlib.Core.Option.{Option, some, none}
-use Prim.Native.Nat.{ℕ, _+_, _<_}
-use native.Mathlib.Omega.{arith}
-use borrow.Author.Tests.{eq-eqb, ne-eqb, ltb-true}
-use lib.Dec.{ltb, leb}
-use lib.ListN.{length, length-append}
-use Rattle.lists.specs.Tests.{eq?, either, true-not-false}
-use Rattle.lists.specs.Map.{upd-same, upd-other}
-use Rattle.protocol.specs.declared.Entry.{Entry}
-use Rattle.protocol.specs.declared.Message.{Message}
-use Rattle.protocol.specs.Parts.{State}
-use Rattle.protocol.specs.Tickets.{entry, next-tn}
-use Rattle.protocol.specs.Sending.{local-entry, is-local, next-message, send}
-use Rattle.sends.specs.declared.ticket.Ticket.{Ticket}
-use Rattle.sends.specs.declared.ticket.Ticket.the-variants.{Remote, Found, New, TooHigh}
-use Rattle.sends.specs.Ticket.{fits, is-new, table-after, sn-next}
-use Rattle.sends.specs.Room.{sn-room}
-use Rattle.sends.specs.Sent.{sent}
-use Rattle.sends.specs.Entries.{entry-filled, next-filled, length-filled, entry-more}
-use Rattle.sends.specs.NextTn.{next-after}
-use Rattle.sends.specs.AfterLaws.{height-kept, top-kept, mark-kept, job-kept, table-same, table-other, sn-after}
-use Rattle.sends.specs.PlanLaws.{judges}
-use Rattle.sends.specs.Plan.{idle, new-plan, local-plan, plan-for, plan-of, plan-after, last-after, base-after, extra-after}
+use Rattle.lists.specs.Basics.{_≡_, refl, sym, ap, Bool, true, false, _≢_, inl, inr, List, [], _∷_, _++_, Option, some, none, ℕ, _+_, _<_, arith, eq-eqb, ne-eqb, ltb-true, ltb}
+use Rattle.lists.specs.Basics.{leb, length, length-append}
+use Rattle.lists.specs.{Tests.{eq?, either, true-not-false}, Map.{upd-same, upd-other}}
+use Rattle.protocol.specs.{declared.Entry.Entry, declared.Message.Message, Parts.State, Tickets.{entry, next-tn}, Sending.{local-entry, is-local, next-message, send}}
+use Rattle.sends.specs.{declared.ticket.Ticket.Ticket, declared.ticket.Ticket.the-variants.{Remote, Found, New, TooHigh}, Ticket.{fits, is-new, table-after, sn-next}}
+use Rattle.sends.specs.{Room.sn-room, Sent.sent, Entries.{entry-filled, next-filled, length-filled, entry-more}, NextTn.next-after}
+use Rattle.sends.specs.{AfterLaws.{height-kept, top-kept, mark-kept, job-kept, table-same, table-other, sn-after}, PlanLaws.judges}
+use Rattle.sends.specs.{Plan.{idle, new-plan, local-plan, plan-for, plan-of, plan-after, last-after, base-after, extra-after}}
 
 -- to the same receiver: the table as the first send left it, or the table before it with the first ticket's TN and entry
 module _ (near : Bool) (l : List Entry) (top mark a base : ℕ) (m : Message) where

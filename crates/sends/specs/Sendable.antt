@@ -1,25 +1,9 @@
 -- A send whose questions are answered "yes": there is room for it, and what it does.
-use mathlib.Core.Path.{_≡_, refl, sym, ap, _∙_}
-use mathlib.Core.Bool.{Bool, true, _&&_}
-use mathlib.Core.List.{[], _∷_}
-use Prim.Native.Nat.{ℕ, _+_, _<_}
-use native.Mathlib.Omega.{arith}
-use borrow.Author.Tests.{leb-true, ltb-true, le-leb}
-use lib.Dec.{leb}
-use lib.ListN.{length}
-use Rattle.lists.specs.Tests.{and-l, and-r, true-not-false}
-use Rattle.protocol.specs.Parts.{State}
-use Rattle.protocol.specs.Sending.{send, send-all, next-message}
-use Rattle.protocol.specs.Questions.{numbers-fit, log-has-room, table-has-room, wire-fits, sn-to-send, put-to-all}
-use Rattle.sends.specs.declared.ticket.Ticket.{Ticket}
-use Rattle.sends.specs.declared.ticket.Ticket.the-variants.{Remote, Found, New, TooHigh}
-use Rattle.sends.specs.Ticket.{fits, is-new, grows, growth}
-use Rattle.sends.specs.Sent.{sent, Ready}
-use Rattle.sends.specs.Plan.{plan-of, plan-after}
-use Rattle.sends.specs.PlanLaws.{judges}
-use Rattle.sends.specs.SecondLaws.{after-first}
-use Rattle.sends.specs.Sends.{sends-questions, first-wire}
-use Rattle.lists.specs.Questions.{first-no, first-no-yes}
+use Rattle.lists.specs.Basics.{_≡_, refl, sym, ap, _∙_, Bool, true, _&&_, [], _∷_, ℕ, _+_, _<_, arith, leb-true, ltb-true, le-leb, leb, length}
+use Rattle.lists.specs.{Tests.{and-l, and-r, true-not-false}, Questions.{first-no, first-no-yes}}
+use Rattle.protocol.specs.{Parts.State, Sending.{send, send-all, next-message}, Questions.{numbers-fit, log-has-room, table-has-room, wire-fits, sn-to-send, put-to-all}}
+use Rattle.sends.specs.{declared.ticket.Ticket.Ticket, declared.ticket.Ticket.the-variants.{Remote, Found, New, TooHigh}, Ticket.{fits, is-new, grows, growth}}
+use Rattle.sends.specs.{Sent.{sent, Ready}, Plan.{plan-of, plan-after}, PlanLaws.judges, SecondLaws.after-first, Sends.{sends-questions, first-wire}}
 
 pub record Sendable (s : State) (a b v h : ℕ) (k : Ticket) : Type 0 where
   pub ticket : plan-of s a b .ticket ≡ k

@@ -1,24 +1,9 @@
 -- The questions 7 to 11 for none, one or two sends, by their plans.
-use mathlib.Core.Path.{_≡_, refl, sym, subst, _∙_}
-use mathlib.Core.Bool.{Bool, true, false, _&&_}
-use mathlib.Core.List.{List, [], _∷_}
-use Prim.Native.Nat.{ℕ, _+_}
-use native.Mathlib.Omega.{arith}
-use borrow.Author.Tests.{ltb-true, ltb-false, lt-leb, le-leb, lt-ltb}
-use lib.Dec.{ltb, leb}
-use lib.ListN.{length}
-use Rattle.lists.specs.Tests.{either, and-l, and-r}
-use Rattle.lists.specs.Questions.{asks, first-no}
-use Rattle.protocol.specs.declared.Answer.the-variants.{Accepted}
-use Rattle.protocol.specs.Parts.{State}
-use Rattle.protocol.specs.Sending.{send, send-all, next-message}
-use Rattle.protocol.specs.Questions.{numbers-fit, window-admits, log-has-room, table-has-room, wire-fits, put-to-all}
-use Rattle.protocol.specs.Step.{Outcome, judged}
-use Rattle.sends.specs.declared.plan.Plan.{Plan}
-use Rattle.sends.specs.Ticket.{fits, growth}
-use Rattle.sends.specs.Plan.{plan-of, plan-after}
-use Rattle.sends.specs.PlanLaws.{Judges, judges}
-use Rattle.sends.specs.AfterLaws.{log-after, wire-after}
+use Rattle.lists.specs.Basics.{_≡_, refl, sym, subst, _∙_, Bool, true, false, _&&_, List, [], _∷_, ℕ, _+_, arith, ltb-true, ltb-false, lt-leb, le-leb, lt-ltb, ltb, leb, length}
+use Rattle.lists.specs.{Tests.{either, and-l, and-r}, Questions.{asks, first-no}}
+use Rattle.protocol.specs.{declared.Answer.the-variants.Accepted, Parts.State, Sending.{send, send-all, next-message}}
+use Rattle.protocol.specs.{Questions.{numbers-fit, window-admits, log-has-room, table-has-room, wire-fits, put-to-all}, Step.{Outcome, judged}}
+use Rattle.sends.specs.{declared.plan.Plan.Plan, Ticket.{fits, growth}, Plan.{plan-of, plan-after}, PlanLaws.{Judges, judges}, AfterLaws.{log-after, wire-after}}
 use Rattle.sends.specs.SecondLaws.{after-first}
 
 unfoldable pub sends-questions : State → ℕ → List ℕ → ℕ → ℕ → List Bool

@@ -1,13 +1,7 @@
 -- A message sent, by how it gets its ticket.
-use mathlib.Core.Path.{_≡_}
-use mathlib.Core.Bool.{true}
-use mathlib.Core.List.{_++_}
-use Prim.Native.Nat.{_<_}
-use lib.ListN.{length}
-use Rattle.protocol.specs.declared.Message.{Message}
-use Rattle.protocol.specs.Parts.{State, with-table, with-memory, with-wire}
-use Rattle.sends.specs.declared.ticket.Ticket.{Ticket}
-use Rattle.sends.specs.Ticket.{is-new, grows, tn-of, table-after, packets-of, logged}
+use Rattle.lists.specs.Basics.{_≡_, true, _++_, _<_, length}
+use Rattle.protocol.specs.{declared.Message.Message, Parts.{State, with-table, with-memory, with-wire}}
+use Rattle.sends.specs.{declared.ticket.Ticket.Ticket, Ticket.{is-new, grows, tn-of, table-after, packets-of, logged}}
 
 -- the ticket taken: the receiver's table
 unfoldable pub ticketed : State → Message → Ticket → State

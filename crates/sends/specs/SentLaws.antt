@@ -1,17 +1,9 @@
 -- A send of the definitions, by how the message gets its ticket.
-use mathlib.Core.Path.{_≡_}
-use mathlib.Core.Bool.{true, false}
-use mathlib.Core.List.{append-nil}
-use mathlib.Core.Option.{some, none}
-use Prim.Native.Nat.{ℕ, _+_}
+use Rattle.lists.specs.Basics.{_≡_, true, false, append-nil, some, none, ℕ, _+_}
 use Rattle.lists.specs.Map.{upd-self}
-use Rattle.protocol.specs.declared.Entry.{Entry}
-use Rattle.protocol.specs.Parts.{State}
-use Rattle.protocol.specs.Tickets.{entry, new-tn}
-use Rattle.protocol.specs.Sending.{is-local, send, send-message, send-remote, send-local, put, log-message, next-message}
-use Rattle.sends.specs.declared.ticket.Ticket.the-variants.{Remote, Found, New}
-use Rattle.sends.specs.Ticket.{tn-of, table-after, packets-of, logged}
-use Rattle.sends.specs.Sent.{ticketed, sent}
+use Rattle.protocol.specs.{declared.Entry.Entry, Parts.State, Tickets.{entry, new-tn}}
+use Rattle.protocol.specs.{Sending.{is-local, send, send-message, send-remote, send-local, put, log-message, next-message}}
+use Rattle.sends.specs.{declared.ticket.Ticket.the-variants.{Remote, Found, New}, Ticket.{tn-of, table-after, packets-of, logged}, Sent.{ticketed, sent}}
 
 module _ (s : State) (a b value hops : ℕ) where
   pub remote-sent : is-local (s .job) a b ≡ false → send s a b value hops ≡ sent s (next-message s a b value hops) Remote

@@ -1,22 +1,13 @@
 -- A message sent where the store stands: the receiver's memory, the sender's and the wire, one after the other.
-use mathlib.Core.Path.{_≡_, refl, ap, _∙_}
-use mathlib.Core.List.{List, _++_}
-use Prim.Native.Nat.{ℕ, _<_}
-use lib.ListN.{length}
+use Rattle.lists.specs.Basics.{_≡_, refl, ap, _∙_, List, _++_, ℕ, _<_, length}
 use Rattle.lists.specs.Map.{upd-ind}
-use Rattle.protocol.specs.declared.Message.{Message}
-use Rattle.protocol.specs.Parts.{State, with-table, with-memory, with-wire}
+use Rattle.protocol.specs.{declared.Message.Message, Parts.{State, with-table, with-memory, with-wire}}
 use Rattle.words.specs.Part.{part, put}
 use Rattle.packets.specs.Words.{packets}
-use Rattle.memory.specs.Places.{MEMORY}
-use Rattle.memory.specs.View.{memory-view}
-use Rattle.store.specs.Places.{WIRE, PACKETS, STORE, live-from}
-use Rattle.store.specs.View.{view}
-use Rattle.store.specs.ViewLaws.{wire-at, live-length, live-changed, wire-put}
-use Rattle.sends.specs.declared.ticket.Ticket.{Ticket}
-use Rattle.sends.specs.Room.{table-room, log-room, wire-room}
-use Rattle.sends.specs.Sent.{ticketed, sent, Ready}
-use Rattle.sends.specs.Ticket.{tn-of, packets-of, to-table, to-wire, logged, to-log, message-after}
+use Rattle.memory.specs.{Places.MEMORY, View.memory-view}
+use Rattle.store.specs.{Places.{WIRE, PACKETS, STORE, live-from}, View.view, ViewLaws.{wire-at, live-length, live-changed, wire-put}}
+use Rattle.sends.specs.{declared.ticket.Ticket.Ticket, Room.{table-room, log-room, wire-room}, Sent.{ticketed, sent, Ready}}
+use Rattle.sends.specs.{Ticket.{tn-of, packets-of, to-table, to-wire, logged, to-log, message-after}}
 
 -- the same for any state: what is full stays
 unfoldable pub to-ticketed : State → Message → Ticket → State

@@ -1,19 +1,10 @@
 -- How a message to be sent gets its ticket, and what the send changes.
-use mathlib.Core.Bool.{Bool, true, false, cond}
-use mathlib.Core.List.{List, [], _∷_, _++_}
-use Prim.Native.Nat.{ℕ, _+_}
-use lib.Dec.{ltb}
+use Rattle.lists.specs.Basics.{Bool, true, false, cond, List, [], _∷_, _++_, ℕ, _+_, ltb}
 use Rattle.lists.specs.Map.{upd}
 use Rattle.arrays.specs.Front.{push}
-use Rattle.protocol.specs.declared.Message.{Message}
-use Rattle.protocol.specs.declared.Entry.{Entry}
-use Rattle.protocol.specs.declared.Packet.{Packet}
-use Rattle.protocol.specs.declared.Content.the-variants.{Ask as ASK, Note as NOTE}
-use Rattle.protocol.specs.Parts.{Memory, with-log, with-sn}
-use Rattle.protocol.specs.Tickets.{filled}
-use Rattle.protocol.specs.Sending.{about, local-entry}
-use Rattle.sends.specs.declared.ticket.Ticket.{Ticket}
-use Rattle.sends.specs.declared.ticket.Ticket.the-variants.{Remote, Found, New, TooHigh}
+use Rattle.protocol.specs.{declared.Message.Message, declared.Entry.Entry, declared.Packet.Packet, declared.Content.the-variants.{Ask as ASK, Note as NOTE}}
+use Rattle.protocol.specs.{Parts.{Memory, with-log, with-sn}, Tickets.filled, Sending.{about, local-entry}}
+use Rattle.sends.specs.{declared.ticket.Ticket.Ticket, declared.ticket.Ticket.the-variants.{Remote, Found, New, TooHigh}}
 
 -- no SN or TN passes 60,000
 unfoldable pub fits : Ticket → Bool

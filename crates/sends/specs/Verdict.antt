@@ -1,14 +1,7 @@
 -- A frame by the number of the first question that is answered "no".
-use mathlib.Core.Path.{_≡_, refl, ap}
-use mathlib.Core.Bool.{Bool, true, false, _&&_}
-use mathlib.Core.List.{List, [], _∷_, _++_}
-use Prim.Native.Nat.{ℕ, suc, _+_}
-use native.Mathlib.Omega.{arith}
-use lib.ListN.{length}
+use Rattle.lists.specs.Basics.{_≡_, refl, ap, Bool, true, false, _&&_, List, [], _∷_, _++_, ℕ, suc, _+_, arith, length}
 use Rattle.lists.specs.Questions.{asks, yes-asks, first-no, first-no-yes, asks-no, asks-first, asks-after}
-use Rattle.protocol.specs.declared.Answer.the-variants.{Refused}
-use Rattle.protocol.specs.Parts.{State}
-use Rattle.protocol.specs.Step.{Outcome, judged}
+use Rattle.protocol.specs.{declared.Answer.the-variants.Refused, Parts.State, Step.{Outcome, judged}}
 
 -- ---- the questions in two parts
 module _ (s : State) (l : List Bool) (o : Outcome) where

@@ -1,30 +1,13 @@
 -- An entry worked where the store stands: the four words written, the sends made; or the four words written back.
-use mathlib.Core.Path.{_≡_, sym, ap, _∙_}
-use mathlib.Core.List.{List}
-use mathlib.Core.Option.{some}
-use Prim.Native.Nat.{ℕ, _-_, _+_, _%_, _<_, _≤_}
-use native.Mathlib.Omega.{arith}
-use lib.ListN.{length}
+use Rattle.lists.specs.Basics.{_≡_, sym, ap, _∙_, List, some, ℕ, _-_, _+_, _%_, _<_, _≤_, arith, length}
 use Rattle.lists.specs.Questions.{first-no}
-use Rattle.protocol.specs.declared.Answer.the-variants.{Accepted, Refused}
-use Rattle.protocol.specs.declared.Entry.{Entry}
-use Rattle.protocol.specs.Parts.{Memory, with-memory}
-use Rattle.protocol.specs.Work.{receivers, sent-value}
-use Rattle.protocol.specs.Working.{work-entry, worked-only, receivers-of, value-out, hops-out}
+use Rattle.protocol.specs.{declared.Answer.the-variants.{Accepted, Refused}, declared.Entry.Entry, Parts.{Memory, with-memory}, Work.{receivers, sent-value}}
+use Rattle.protocol.specs.{Working.{work-entry, worked-only, receivers-of, value-out, hops-out}}
 use Rattle.words.specs.Part.{part, put, part-length, part-put, put-again, put-same}
-use Rattle.memory.specs.declared.Numbers.{Numbers}
-use Rattle.memory.specs.Places.{MEMORY}
-use Rattle.memory.specs.Numbers.{taken, given, with-numbers, give-back, numbers-given}
-use Rattle.memory.specs.View.{memory-view}
-use Rattle.store.specs.Places.{STORE, live-from}
-use Rattle.store.specs.View.{view, Framed}
-use Rattle.store.specs.ViewLaws.{live-at, live-put}
-use Rattle.sends.specs.declared.entry.Worked.{Worked}
-use Rattle.store.specs.Framing.{refuses as refused, accepts as accepted}
-use Rattle.sends.specs.Made.{Made, sends-made, sends-refused}
-use Rattle.sends.specs.Sends.{tried-sends}
-use Rattle.sends.specs.Worked.{NumbersOf, numbers-taken, WorkedAs}
-use Rattle.sends.specs.Works.{own-questions, tried-work, own-refused, own-passed}
+use Rattle.memory.specs.{declared.Numbers.Numbers, Places.MEMORY, Numbers.{taken, given, with-numbers, give-back, numbers-given}, View.memory-view}
+use Rattle.store.specs.{Places.{STORE, live-from}, View.{view, Framed}, ViewLaws.{live-at, live-put}, Framing.{refuses as refused, accepts as accepted}}
+use Rattle.sends.specs.{declared.entry.Worked.Worked, Made.{Made, sends-made, sends-refused}, Sends.tried-sends, Worked.{NumbersOf, numbers-taken, WorkedAs}}
+use Rattle.sends.specs.{Works.{own-questions, tried-work, own-refused, own-passed}}
 
 -- xs is the store before; old are the four words, w what the work makes of them
 module _ (xs : List ℕ) (size : length xs ≡ STORE) (c : ℕ) (c-in : c < 13) (e : Entry) (e-in : e .sender < 16) (old : Numbers) (w : Worked)

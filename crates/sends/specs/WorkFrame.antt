@@ -1,30 +1,14 @@
 -- Frame 12: the questions on the chare, the next entry, and the entry worked.
-use mathlib.Core.Path.{_≡_, refl, sym, ap, _∙_}
-use mathlib.Core.List.{List}
-use mathlib.Core.Option.{Option, some, none}
-use Prim.Native.Nat.{ℕ, _+_, _<_}
-use native.Mathlib.Omega.{arith}
-use borrow.Author.Tests.{eqb-true}
-use Rattle.lists.specs.Lists.{find-some}
-use Rattle.lists.specs.Questions.{first-no, first-no-yes}
-use Rattle.protocol.specs.declared.Answer.{Answer}
-use Rattle.protocol.specs.declared.Answer.the-variants.{Refused}
-use Rattle.protocol.specs.declared.Entry.{Entry}
-use Rattle.protocol.specs.Questions.{work-questions}
-use Rattle.protocol.specs.Step.{Outcome}
-use Rattle.protocol.specs.Tickets.{has-tn}
+use Rattle.lists.specs.Basics.{_≡_, refl, sym, ap, _∙_, List, Option, some, none, ℕ, _+_, _<_, arith, eqb-true}
+use Rattle.lists.specs.{Lists.find-some, Questions.{first-no, first-no-yes}}
+use Rattle.protocol.specs.{declared.Answer.Answer, declared.Answer.the-variants.Refused, declared.Entry.Entry, Questions.work-questions, Step.Outcome, Tickets.has-tn}
 use Rattle.protocol.specs.Working.{next-entry}
 use Rattle.words.specs.Part.{part}
 use Rattle.head.specs.Head.{job-of, lost-of, status-of, chare-asked}
 use Rattle.tickets.specs.Fits.{InRange, found-fits}
-use Rattle.memory.specs.Places.{TABLE, ROW, MEMORY}
-use Rattle.memory.specs.View.{memory-view, table-part}
-use Rattle.store.specs.Places.{live-from}
-use Rattle.store.specs.View.{view, tried, Framed}
-use Rattle.store.specs.ViewLaws.{live-at}
-use Rattle.store.specs.Framing.{refuses as refused}
-use Rattle.sends.specs.Reading.{chare-in}
-use Rattle.sends.specs.Works.{worked-state, chare-questions, tried-work, work-tried, work-refused, none-refused}
+use Rattle.memory.specs.{Places.{TABLE, ROW, MEMORY}, View.{memory-view, table-part}}
+use Rattle.store.specs.{Places.live-from, View.{view, tried, Framed}, ViewLaws.live-at, Framing.refuses as refused}
+use Rattle.sends.specs.{Reading.chare-in, Works.{worked-state, chare-questions, tried-work, work-tried, work-refused, none-refused}}
 
 -- ---- the next entry of a memory
 module _ (ws : List ℕ) where

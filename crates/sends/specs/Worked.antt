@@ -1,24 +1,10 @@
 -- An entry's message worked on the four words of a memory, and the first question that refuses it.
-use mathlib.Core.Path.{_≡_, sym, _∙_}
-use mathlib.Core.Bool.{true, false, _&&_}
-use mathlib.Core.List.{List, [], _∷_}
-use Prim.Native.Nat.{ℕ, _+_, _%_, _<_, _≤_}
-use native.Mathlib.Omega.{arith}
-use borrow.Author.Tests.{le-leb, lt-leb}
-use lib.Dec.{leb}
+use Rattle.lists.specs.Basics.{_≡_, sym, _∙_, true, false, _&&_, List, [], _∷_, ℕ, _+_, _%_, _<_, _≤_, arith, le-leb, lt-leb, leb}
 use Rattle.lists.specs.Questions.{first-no}
-use Rattle.protocol.specs.declared.Entry.{Entry}
-use Rattle.protocol.specs.Parts.{Memory}
-use Rattle.protocol.specs.Work.{work}
-use Rattle.protocol.specs.Working.{work-entry}
-use Rattle.protocol.specs.Questions.{mark-after}
-use Rattle.window.specs.declared.Slid.{Slid}
-use Rattle.window.specs.Bits.{bits, TakenIn}
-use Rattle.memory.specs.declared.Numbers.{Numbers}
-use Rattle.memory.specs.Numbers.{taken, with-numbers}
-use Rattle.memory.specs.View.{memory-view, state-at, height-at, mark-at, window-at}
-use Rattle.sends.specs.declared.entry.Worked.{Worked}
-use Rattle.sends.specs.Works.{own-questions}
+use Rattle.protocol.specs.{declared.Entry.Entry, Parts.Memory, Work.work, Working.work-entry, Questions.mark-after}
+use Rattle.window.specs.{declared.Slid.Slid, Bits.{bits, TakenIn}}
+use Rattle.memory.specs.{declared.Numbers.Numbers, Numbers.{taken, with-numbers}, View.{memory-view, state-at, height-at, mark-at, window-at}}
+use Rattle.sends.specs.{declared.entry.Worked.Worked, Works.own-questions}
 
 -- x are words that m has for the sender s
 pub record NumbersOf (m : Memory) (s : ℕ) (x : Numbers) : Type 0 where

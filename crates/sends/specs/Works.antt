@@ -1,21 +1,12 @@
 -- Frame 12: what working the next TN leaves, and its questions in three parts.
-use mathlib.Core.Path.{_≡_, refl}
-use mathlib.Core.Bool.{Bool, _&&_}
-use mathlib.Core.List.{List, [], _∷_}
-use mathlib.Core.Option.{Option, some, none}
-use Prim.Native.Nat.{ℕ, _+_}
-use lib.Dec.{leb}
+use Rattle.lists.specs.Basics.{_≡_, refl, Bool, _&&_, List, [], _∷_, Option, some, none, ℕ, _+_, leb}
 use Rattle.lists.specs.Questions.{asks, first-no}
-use Rattle.protocol.specs.declared.Entry.{Entry}
-use Rattle.protocol.specs.declared.Answer.the-variants.{Accepted, Refused}
-use Rattle.protocol.specs.Parts as parts
-use Rattle.protocol.specs.Working.{next-entry, worked-only, work-next, value-out, hops-out, receivers-of}
-use Rattle.protocol.specs.Questions.{is-chare, mark-after, work-questions, entry-questions, put-to-sends}
-use Rattle.protocol.specs.Step.{Outcome, judged}
+use Rattle.protocol.specs.{declared.Entry.Entry, declared.Answer.the-variants.{Accepted, Refused}, Working.{next-entry, worked-only, work-next, value-out, hops-out, receivers-of}}
+use Rattle.protocol.specs.{Questions.{is-chare, mark-after, work-questions, entry-questions, put-to-sends}, Step.{Outcome, judged}}
 use Rattle.head.specs.Head.{runs, chare-asked}
 use Rattle.store.specs.View.{tried}
-use Rattle.sends.specs.Sends.{sends-questions, tried-sends}
-use Rattle.sends.specs.Verdict.{stopped, passed, part-stopped, part-passed}
+use Rattle.sends.specs.{Sends.{sends-questions, tried-sends}, Verdict.{stopped, passed, part-stopped, part-passed}}
+use Rattle.protocol.specs.Parts as parts
 
 -- the state after a work: with no next entry it stays
 unfoldable pub worked-state : parts.State → ℕ → Option Entry → parts.State

@@ -1,25 +1,13 @@
 -- When machine p is done catching up: what the code finds, against the definitions.
-use mathlib.Core.Path.{_≡_, sym, ap, _∙_}
-use mathlib.Core.Bool.{Bool, true, false, not, _||_}
-use mathlib.Core.List.{List}
-use Prim.Native.Nat.{ℕ, _+_, _-_, _<_, _≤_}
-use native.Mathlib.Omega.{arith}
-use borrow.Author.Tests.{lt-leb, le-leb}
-use lib.ListN.{take, drop}
-use lib.Seq.{drop-drop}
+use Rattle.lists.specs.Basics.{_≡_, sym, ap, _∙_, Bool, true, false, not, _||_, List, ℕ, _+_, _-_, _<_, _≤_, arith, lt-leb, le-leb, take, drop, drop-drop}
 use Rattle.lists.specs.Lists.{allb}
-use Rattle.protocol.specs.Parts.{State, on, is-catching-up, every-chare}
-use Rattle.protocol.specs.Restart.{has-caught-up, is-done}
+use Rattle.protocol.specs.{Parts.{State, on, is-catching-up, every-chare}, Restart.{has-caught-up, is-done}}
 use Rattle.arrays.specs.Loops.{each, allb-keep}
 use Rattle.words.specs.Part.{part}
-use Rattle.head.specs.Head.{target-of, job-of}
-use Rattle.head.specs.Kept.{part-front}
+use Rattle.head.specs.{Head.{target-of, job-of}, Kept.part-front}
 use Rattle.logs.specs.Log.{has-ticket, entries}
-use Rattle.memory.specs.Places.{LOG, ROW, MEMORY}
-use Rattle.memory.specs.View.{memory-view, log-part}
-use Rattle.store.specs.Places.{live-from}
-use Rattle.store.specs.View.{view}
-use Rattle.store.specs.ViewLaws.{live-at}
+use Rattle.memory.specs.{Places.{LOG, ROW, MEMORY}, View.{memory-view, log-part}}
+use Rattle.store.specs.{Places.live-from, View.view, ViewLaws.live-at}
 
 -- a part of a part
 part-of-part : (a n b j : ℕ) (xs : List ℕ) → b + j ≤ n → part b j (part a n xs) ≡ part (a + b) j xs

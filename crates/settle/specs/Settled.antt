@@ -1,17 +1,8 @@
 -- A machine settles, and all of them in turn.
-use mathlib.Core.Path.{_≡_, refl, sym, ap, _∙_}
-use mathlib.Core.Bool.{true, false}
-use mathlib.Core.List.{List, [], _∷_}
-use Prim.Native.Nat.{ℕ, zero, suc, _+_, _-_, _<_, _≤_}
-use native.Mathlib.Omega.{arith}
-use native.Mathlib.Numerals.{add-one}
-use lib.ListN.{length, set}
-use Rattle.protocol.specs.Parts.{State, at-home, with-status, every-machine}
-use Rattle.protocol.specs.Restart.{is-done, settle-machine, settle-all, settle}
+use Rattle.lists.specs.Basics.{_≡_, refl, sym, ap, _∙_, true, false, List, [], _∷_, ℕ, zero, suc, _+_, _-_, _<_, _≤_, arith, add-one, length, set}
+use Rattle.protocol.specs.{Parts.{State, at-home, with-status, every-machine}, Restart.{is-done, settle-machine, settle-all, settle}}
 use Rattle.head.specs.Head.{STATUS, as-status}
-use Rattle.store.specs.Places.{STORE}
-use Rattle.store.specs.View.{view}
-use Rattle.store.specs.ViewLaws.{status-set}
+use Rattle.store.specs.{Places.STORE, View.view, ViewLaws.status-set}
 
 -- ---- machine p
 pub machine-stays : (s : State) (p : ℕ) → is-done s p ≡ false → s ≡ settle-machine s p

@@ -1,23 +1,12 @@
 -- What frame 16 leaves, before machines settle.
-use mathlib.Core.Path.{_≡_, sym, _∙_}
-use mathlib.Core.Logic.{_≢_}
-use mathlib.Core.List.{List}
-use Prim.Native.Nat.{ℕ, _+_, _-_, _<_}
-use native.Mathlib.Omega.{arith}
+use Rattle.lists.specs.Basics.{_≡_, sym, _∙_, _≢_, List, ℕ, _+_, _-_, _<_, arith}
 use Rattle.lists.specs.Questions.{asks, yes-asks, first-no, first-no-yes, asks-first}
-use Rattle.protocol.specs.declared.Answer.the-variants.{Shown, Refused}
-use Rattle.protocol.specs.Parts.{State, up}
-use Rattle.protocol.specs.Questions.{show-questions, is-chare}
-use Rattle.protocol.specs.Step.{Outcome, judged}
+use Rattle.protocol.specs.{declared.Answer.the-variants.{Shown, Refused}, Parts.{State, up}, Questions.{show-questions, is-chare}, Step.{Outcome, judged}}
 use Rattle.frames.specs.Range.{between-true}
 use Rattle.words.specs.Part.{part}
-use Rattle.head.specs.Head.{job-of, lost-of, status-of, runs, chare-asked}
-use Rattle.head.specs.HeadLaws.{chares-top}
-use Rattle.memory.specs.Places.{MEMORY}
-use Rattle.memory.specs.View.{memory-view}
-use Rattle.store.specs.Places.{live-from}
-use Rattle.store.specs.View.{view, outcome}
-use Rattle.store.specs.ViewLaws.{live-at}
+use Rattle.head.specs.{Head.{job-of, lost-of, status-of, runs, chare-asked}, HeadLaws.chares-top}
+use Rattle.memory.specs.{Places.MEMORY, View.memory-view}
+use Rattle.store.specs.{Places.live-from, View.{view, outcome}, ViewLaws.live-at}
 
 unfoldable pub shown : State → ℕ → Outcome
 shown s c = record { state = s; answer = Shown (s .live c .height) (s .live c .state) }

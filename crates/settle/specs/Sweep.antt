@@ -1,13 +1,6 @@
 -- A loop that goes through the indices of a map and changes some values: the map is the new one up to where the loop is.
-use mathlib.Core.Path.{_≡_, sym, ap, _∙_, fun-ext}
-use mathlib.Core.Bool.{cond}
-use mathlib.Core.Logic.{_≢_, inl, inr}
-use Prim.Native.Nat.{ℕ, _+_, _<_, _≤_}
-use native.Mathlib.Omega.{arith}
-use borrow.Author.Tests.{lt-ltb, le-ltb}
-use lib.Dec.{ltb}
-use Rattle.lists.specs.Tests.{eq?, lt?}
-use Rattle.lists.specs.Map.{upd, upd-ind}
+use Rattle.lists.specs.Basics.{_≡_, sym, ap, _∙_, fun-ext, cond, _≢_, inl, inr, ℕ, _+_, _<_, _≤_, arith, lt-ltb, le-ltb, ltb}
+use Rattle.lists.specs.{Tests.{eq?, lt?}, Map.{upd, upd-ind}}
 
 module _ {A : Type 0} where
   -- f below k, g from k on

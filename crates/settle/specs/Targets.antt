@@ -1,20 +1,9 @@
 -- The targets of a machine's chares dropped, one chare after the other.
-use mathlib.Core.Path.{_≡_, refl, ap}
-use mathlib.Core.Bool.{true, false, cond}
-use mathlib.Core.List.{List}
-use Prim.Native.Nat.{ℕ, _+_, _<_, _≤_}
-use native.Mathlib.Omega.{arith}
-use borrow.Author.Tests.{ne-eqb}
-use lib.Dec.{eqb}
-use lib.ListN.{length, set}
-use Rattle.lists.specs.Tests.{either}
-use Rattle.lists.specs.Map.{upd}
+use Rattle.lists.specs.Basics.{_≡_, refl, ap, true, false, cond, List, ℕ, _+_, _<_, _≤_, arith, ne-eqb, eqb, length, set}
+use Rattle.lists.specs.{Tests.either, Map.upd}
 use Rattle.protocol.specs.Parts.{Job, State, on, at-home, with-status}
-use Rattle.head.specs.Head.{TARGET, job-of}
-use Rattle.head.specs.HeadLaws.{home-desk, home-beyond}
-use Rattle.store.specs.Places.{STORE}
-use Rattle.store.specs.View.{view}
-use Rattle.store.specs.ViewLaws.{target-set}
+use Rattle.head.specs.{Head.{TARGET, job-of}, HeadLaws.{home-desk, home-beyond}}
+use Rattle.store.specs.{Places.STORE, View.view, ViewLaws.target-set}
 use Rattle.settle.specs.Sweep.{front, front-start, front-put, front-skip, front-end}
 
 -- that of chare c, if it is on machine p

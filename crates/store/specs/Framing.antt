@@ -1,19 +1,9 @@
 -- A frame's questions: the number of the first that is answered "no" decides.
-use mathlib.Core.Path.{_≡_, refl, sym, _∙_}
-use mathlib.Core.Bool.{Bool, true}
-use mathlib.Core.Logic.{_≢_}
-use mathlib.Core.List.{List, [], _∷_}
-use Prim.Native.Nat.{ℕ, _≤_}
-use native.Mathlib.Omega.{arith}
+use Rattle.lists.specs.Basics.{_≡_, refl, sym, _∙_, Bool, true, _≢_, List, [], _∷_, ℕ, _≤_, arith}
 use Rattle.lists.specs.Questions.{asks, yes-asks, first-no, first-no-yes, asks-first}
-use Rattle.protocol.specs.declared.Answer.{Answer}
-use Rattle.protocol.specs.declared.Answer.the-variants.{Accepted, Refused}
-use Rattle.protocol.specs.Frames.{between}
-use Rattle.protocol.specs.Parts.{State}
-use Rattle.protocol.specs.Step.{Outcome, judged}
+use Rattle.protocol.specs.{declared.Answer.Answer, declared.Answer.the-variants.{Accepted, Refused}, Frames.between, Parts.State, Step.{Outcome, judged}}
 use Rattle.frames.specs.Range.{between-true}
-use Rattle.head.specs.Head.{job-of}
-use Rattle.head.specs.HeadLaws.{machines-top}
+use Rattle.head.specs.{Head.job-of, HeadLaws.machines-top}
 use Rattle.store.specs.View.{view, outcome, tried, Framed}
 
 -- ---- a frame's end: the store is as it was, or the frame is accepted

@@ -1,5 +1,5 @@
 -- Where each part of the store begins: the constants of src/, under the same names.
-use Prim.Native.Nat.{ℕ, _+_, _*_}
+use Rattle.lists.specs.Basics.{ℕ, _+_, _*_}
 use Rattle.head.specs.Head.{HEAD}
 use Rattle.memory.specs.Places.{MEMORY}
 

@@ -1,20 +1,12 @@
 -- A store of words as a state of the definitions: the head, 13 memories, 13 copies, 7 note lists, the wire. Any words are a state.
-use mathlib.Core.Path.{_≡_}
-use mathlib.Core.Bool.{Bool}
-use mathlib.Core.List.{List}
-use Prim.Native.Nat.{ℕ}
+use Rattle.lists.specs.Basics.{_≡_, Bool, List, ℕ}
 use Rattle.lists.specs.Questions.{asks}
-use Rattle.protocol.specs.declared.Answer.{Answer}
-use Rattle.protocol.specs.declared.Answer.the-variants.{Accepted, Refused}
-use Rattle.protocol.specs.Parts.{State}
-use Rattle.protocol.specs.Step.{Outcome, judged}
-use Rattle.words.specs.Part.{part}
-use Rattle.words.specs.Slots.{slots}
+use Rattle.protocol.specs.{declared.Answer.Answer, declared.Answer.the-variants.{Accepted, Refused}, Parts.State, Step.{Outcome, judged}}
+use Rattle.words.specs.{Part.part, Slots.slots}
 use Rattle.head.specs.Head.{job-of, lost-of, status-of, held-of, target-of}
 use Rattle.notelist.specs.Notes.{notes}
 use Rattle.packets.specs.Words.{packets}
-use Rattle.memory.specs.Places.{MEMORY}
-use Rattle.memory.specs.View.{memory-view}
+use Rattle.memory.specs.{Places.MEMORY, View.memory-view}
 use Rattle.store.specs.Places.{LIVE, COPY, NOTES, NOTELIST, WIRE, PACKETS}
 
 unfoldable pub view : List ℕ → State

@@ -1,27 +1,14 @@
 -- A part of the store put anew changes that part of the view, and no other. All arithmetic on places is here.
-use mathlib.Core.Path.{_≡_, refl, sym, ap, _∙_, fun-ext}
-use mathlib.Core.Bool.{Bool}
-use mathlib.Core.List.{List}
-use mathlib.Core.Logic.{inl}
-use Prim.Native.Nat.{ℕ, _+_, _≤_, _<_}
-use native.Mathlib.Omega.{arith}
-use lib.Dec.{eqb}
-use lib.ListN.{length, set}
+use Rattle.lists.specs.Basics.{_≡_, refl, sym, ap, _∙_, fun-ext, Bool, List, inl, ℕ, _+_, _≤_, _<_, arith, eqb, length, set}
 use Rattle.lists.specs.Map.{upd, upd-ind, upd-same, upd-other}
-use Rattle.protocol.specs.declared.Status.{Status}
-use Rattle.protocol.specs.Parts.{Job, State, Memory, with-lost, with-status, with-memory, with-copies, with-notes, with-wire}
-use Rattle.words.specs.Part.{part, put, put-length, part-length, part-put, part-behind}
-use Rattle.words.specs.Slots.{slots, slot-here, slots-before, slots-behind, slots-put, slots-set}
-use Rattle.words.specs.Copy.{Apart}
-use Rattle.head.specs.Head.{HEAD, LOST, STATUS, HELD, TARGET, job-of, lost-of, status-of, held-of, target-of, as-status}
-use Rattle.head.specs.Kept.{Says, head-kept, head-put}
-use Rattle.head.specs.Sets.{behind-set, set-lost, set-status, set-held, set-target}
+use Rattle.protocol.specs.{declared.Status.Status, Parts.{Job, State, Memory, with-lost, with-status, with-memory, with-copies, with-notes, with-wire}}
+use Rattle.words.specs.{Part.{part, put, put-length, part-length, part-put, part-behind}, Slots.{slots, slot-here, slots-before, slots-behind, slots-put, slots-set}, Copy.Apart}
+use Rattle.head.specs.{Head.{HEAD, LOST, STATUS, HELD, TARGET, job-of, lost-of, status-of, held-of, target-of, as-status}, Kept.{Says, head-kept, head-put}}
+use Rattle.head.specs.{Sets.{behind-set, set-lost, set-status, set-held, set-target}}
 use Rattle.notelist.specs.Notes.{notes}
 use Rattle.packets.specs.Words.{packets}
-use Rattle.memory.specs.Places.{MEMORY}
-use Rattle.memory.specs.View.{memory-view}
-use Rattle.store.specs.Places.{LIVE, COPY, NOTES, NOTELIST, WIRE, PACKETS, STORE, live-from, copy-from, notes-from}
-use Rattle.store.specs.View.{view}
+use Rattle.memory.specs.{Places.MEMORY, View.memory-view}
+use Rattle.store.specs.{Places.{LIVE, COPY, NOTES, NOTELIST, WIRE, PACKETS, STORE, live-from, copy-from, notes-from}, View.view}
 
 -- a map of a map, changed at one key
 pub over : {A B : Type 0} (f : A → B) (k : ℕ) (v : A) (g : ℕ → A) → (λ i. f (upd k v g i)) ≡ upd k (f v) (λ i. f (g i))

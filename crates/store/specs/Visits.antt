@@ -1,30 +1,16 @@
 -- A loop through the chares, or the machines, of a store that changes some of them: w says which, f what they become, g is the map before.
-use mathlib.Core.Path.{_≡_, sym, _∙_, fun-ext}
-use mathlib.Core.Bool.{Bool, true, false, cond}
-use mathlib.Core.List.{List, []}
-use mathlib.Core.Logic.{_≢_, inl, inr}
-use Prim.Native.Nat.{ℕ, _+_, _<_, _≤_}
-use native.Mathlib.Omega.{arith}
-use borrow.Author.Tests.{lt-ltb, le-ltb}
-use lib.Dec.{ltb, eqb}
-use lib.ListN.{length, set, length-set}
-use Rattle.lists.specs.Tests.{either, eq?, lt?}
-use Rattle.lists.specs.Map.{upd, upd-ind}
+use Rattle.lists.specs.Basics.{_≡_, sym, _∙_, fun-ext, Bool, true, false, cond, List, [], _≢_, inl, inr, ℕ, _+_, _<_, _≤_, arith, lt-ltb, le-ltb, ltb, eqb, length, set, length-set}
+use Rattle.lists.specs.{Tests.{either, eq?, lt?}, Map.{upd, upd-ind}}
 use Rattle.arrays.specs.ArrayMap.{as-map}
-use Rattle.protocol.specs.declared.Note.{Note}
-use Rattle.protocol.specs.Parts.{blank, with-copies}
+use Rattle.protocol.specs.{declared.Note.Note, Parts.{blank, with-copies}}
 use Rattle.window.specs.BitLaws.{no-bits}
-use Rattle.words.specs.Part.{put}
-use Rattle.words.specs.Rows.{row}
-use Rattle.words.specs.Slots.{slots}
+use Rattle.words.specs.{Part.put, Rows.row, Slots.slots}
 use Rattle.head.specs.Head.{HELD}
-use Rattle.tickets.specs.Table as tickets
-use Rattle.logs.specs.Log as logs
 use Rattle.notelist.specs.Notes.{notes}
 use Rattle.memory.specs.View.{memory-view}
-use Rattle.store.specs.Places.{NOTELIST, STORE, notes-from}
-use Rattle.store.specs.View.{view}
-use Rattle.store.specs.ViewLaws.{held-set, notes-put, notes-length}
+use Rattle.store.specs.{Places.{NOTELIST, STORE, notes-from}, View.view, ViewLaws.{held-set, notes-put, notes-length}}
+use Rattle.tickets.specs.Table as tickets
+use Rattle.logs.specs.Log as logs
 
 module _ {A : Type 0} (w : ℕ → Bool) (f g : ℕ → A) where
   unfoldable pub chosen : ℕ → A

@@ -1,26 +1,11 @@
 -- A table whose words change: an entry at the place found, one more at the end, a ticket entered once, a table pruned.
-use mathlib.Core.Path.{_≡_, refl, sym, ap, _∙_}
-use mathlib.Core.Bool.{true, false}
-use mathlib.Core.List.{List, [], _∷_, _++_, map}
-use mathlib.Core.Option.{some, none}
-use Prim.Native.Nat.{ℕ, _+_, _-_, _%_, _<_, _≤_}
-use native.Mathlib.Omega.{arith}
-use native.Mathlib.Nat.{mod-eq-of-lt}
-use borrow.Author.Tests.{le-leb, lt-leb}
-use lib.ListN.{length, getD, set, length-append}
+use Rattle.lists.specs.Basics.{_≡_, refl, sym, ap, _∙_, true, false, List, [], _∷_, _++_, map, some, none, ℕ, _+_, _-_, _%_, _<_, _≤_, arith, mod-eq-of-lt, le-leb, lt-leb, length}
+use Rattle.lists.specs.Basics.{getD, set, length-append}
 use Rattle.lists.specs.Lists.{keep, change1}
-use Rattle.arrays.specs.Front.{push, push-fits}
-use Rattle.arrays.specs.Place.{place, any-there, none-there}
-use Rattle.protocol.specs.declared.Entry.{Entry}
-use Rattle.protocol.specs.Tickets.{for-message, entry, note-entry, unreceived}
-use Rattle.protocol.specs.Checkpoint.{above-height}
-use Rattle.protocol.specs.Restart.{enter}
-use Rattle.words.specs.Rows.{row, named}
-use Rattle.words.specs.Mapped.{place-map, find-at, find-no, change-at, change-no, map-push}
-use Rattle.words.specs.Sift.{sifted, sift-start}
-use Rattle.tickets.specs.Table.{entry-of, entries, Entering}
-use Rattle.tickets.specs.EntryLaws.{by-name}
-use Rattle.tickets.specs.Fits.{count-is, entries-fit}
+use Rattle.arrays.specs.{Front.{push, push-fits}, Place.{place, any-there, none-there}}
+use Rattle.protocol.specs.{declared.Entry.Entry, Tickets.{for-message, entry, note-entry, unreceived}, Checkpoint.above-height, Restart.enter}
+use Rattle.words.specs.{Rows.{row, named}, Mapped.{place-map, find-at, find-no, change-at, change-no, map-push}, Sift.{sifted, sift-start}}
+use Rattle.tickets.specs.{Table.{entry-of, entries, Entering}, EntryLaws.by-name, Fits.{count-is, entries-fit}}
 
 -- ---- one more
 pub entered : (ws out : List ℕ) (e : Entry) (x : ℕ) → row out ≡ push (length ws - 1) (row ws) x → entry-of x ≡ e → entries out ≡ push (length ws - 1) (entries ws) e

@@ -1,16 +1,7 @@
 -- One word as an entry: its fields, its name, and what changes of it fit a word again.
-use mathlib.Core.Path.{_≡_, refl}
-use mathlib.Core.Bool.{Bool, true, false}
-use Prim.Native.Nat.{ℕ, _+_, _*_, _/_, _%_, _<_, _≤_}
-use native.Mathlib.Omega.{arith}
-use native.Mathlib.Nat.{mod-eq-of-lt}
-use borrow.Author.Tests.{lt-ltb, le-ltb}
-use lib.Dec.{eqb}
-use Rattle.protocol.specs.declared.Entry.{Entry}
-use Rattle.protocol.specs.Tickets.{for-message, fill, note-entry}
-use Rattle.protocol.specs.Checkpoint.{above-height}
-use Rattle.words.specs.Fields.{bit}
-use Rattle.words.specs.Rows.{named}
+use Rattle.lists.specs.Basics.{_≡_, refl, Bool, true, false, ℕ, _+_, _*_, _/_, _%_, _<_, _≤_, arith, mod-eq-of-lt, lt-ltb, le-ltb, eqb}
+use Rattle.protocol.specs.{declared.Entry.Entry, Tickets.{for-message, fill, note-entry}, Checkpoint.above-height}
+use Rattle.words.specs.{Fields.bit, Rows.named}
 use Rattle.item.specs.Item.{item-of, clipped, peer-small, hops-small as item-hops, by-name as item-name}
 use Rattle.tickets.specs.Table.{entry-of, as-entry, fitted}
 

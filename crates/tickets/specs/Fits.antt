@@ -1,17 +1,9 @@
 -- A table has at most as many entries as there is room behind the count, and what is found in it fits a word.
-use mathlib.Core.Path.{_≡_, sym}
-use mathlib.Core.Bool.{Bool}
-use mathlib.Core.List.{List}
-use mathlib.Core.Option.{some}
-use Prim.Native.Nat.{ℕ, _-_, _<_, _≤_}
-use native.Mathlib.Omega.{arith}
-use lib.ListN.{length, getD, length-map, List·getD-map}
+use Rattle.lists.specs.Basics.{_≡_, sym, Bool, List, some, ℕ, _-_, _<_, _≤_, arith, length, getD, length-map, List·getD-map}
 use Rattle.lists.specs.Lists.{find}
 use Rattle.protocol.specs.declared.Entry.{Entry}
-use Rattle.words.specs.Rows.{row, row-length}
-use Rattle.words.specs.Mapped.{find-holds}
-use Rattle.tickets.specs.Table.{entry-of, entries}
-use Rattle.tickets.specs.EntryLaws.{sender-small, hops-small, value-small, tn-small, sn-small}
+use Rattle.words.specs.{Rows.{row, row-length}, Mapped.find-holds}
+use Rattle.tickets.specs.{Table.{entry-of, entries}, EntryLaws.{sender-small, hops-small, value-small, tn-small, sn-small}}
 
 pub count-is : (ws : List ℕ) → length (row ws) ≡ length (entries ws)
 unfolding entries

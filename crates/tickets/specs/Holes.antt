@@ -1,16 +1,7 @@
 -- The highest TN as a loop gathers it, the lowest hole as a loop seeks it, and what is read off from both.
-use mathlib.Core.Path.{_≡_, sym}
-use mathlib.Core.Bool.{true, false}
-use mathlib.Core.List.{List, [], _∷_}
-use mathlib.Core.Option.{some, none}
-use Prim.Native.Nat.{ℕ, suc, zero, _+_, _-_, _<_, _≤_, max}
-use native.Mathlib.Omega.{arith}
-use native.Mathlib.Numerals.{add-one}
-use Rattle.lists.specs.Tests.{either}
-use Rattle.lists.specs.Lists.{anyb}
-use Rattle.protocol.specs.declared.Entry.{Entry}
-use Rattle.protocol.specs.Tickets.{has-tn, highest, first-free, lowest-hole, hole-or, next-tn}
-use Rattle.protocol.specs.Restart.{below-hole}
+use Rattle.lists.specs.Basics.{_≡_, sym, true, false, List, [], _∷_, some, none, ℕ, suc, zero, _+_, _-_, _<_, _≤_, max, arith, add-one}
+use Rattle.lists.specs.{Tests.either, Lists.anyb}
+use Rattle.protocol.specs.{declared.Entry.Entry, Tickets.{has-tn, highest, first-free, lowest-hole, hole-or, next-tn}, Restart.below-hole}
 
 pub highest-max : (a h : ℕ) (l : List Entry) → max a (highest h l) ≡ highest (max h a) l
 unfolding highest

@@ -1,22 +1,11 @@
 -- Loops over the words of a table: i entries are passed.
-use mathlib.Core.Path.{_≡_, _∙_}
-use mathlib.Core.Bool.{true, false}
-use mathlib.Core.List.{List, [], _∷_, map}
-use mathlib.Core.Option.{some, none}
-use Prim.Native.Nat.{ℕ, _+_, _-_, _<_, _≤_, max}
-use native.Mathlib.Omega.{arith}
-use borrow.Author.Tests.{eq-eqb, ne-eqb}
-use lib.ListN.{length, getD, drop, drop-of-length-le}
+use Rattle.lists.specs.Basics.{_≡_, _∙_, true, false, List, [], _∷_, map, some, none, ℕ, _+_, _-_, _<_, _≤_, max, arith, eq-eqb, ne-eqb, length, getD, drop, drop-of-length-le}
 use Rattle.lists.specs.Lists.{anyb, find}
 use Rattle.arrays.specs.Front.{uncons}
 use Rattle.protocol.specs.Tickets.{has-tn, highest}
-use Rattle.words.specs.Rows.{row, row-length}
-use Rattle.words.specs.Mapped.{mapped-row, mapped-size, mapped-at}
+use Rattle.words.specs.{Rows.{row, row-length}, Mapped.{mapped-row, mapped-size, mapped-at}}
 use Rattle.item.specs.Item.{item-of}
-use Rattle.tickets.specs.Table.{entry-of, entries}
-use Rattle.tickets.specs.EntryLaws.{tn-of}
-use Rattle.tickets.specs.Fits.{count-is}
-use Rattle.tickets.specs.Holes.{highest-max}
+use Rattle.tickets.specs.{Table.{entry-of, entries}, EntryLaws.tn-of, Fits.count-is, Holes.highest-max}
 
 module _ (ws : List ℕ) (i : ℕ) where
   -- the entry at i, and the rest

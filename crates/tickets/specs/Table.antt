@@ -1,21 +1,10 @@
 -- A table entry as an item of a row: the peer is the sender, the lower flag is received, the upper one noted. A table is a row of them.
-use mathlib.Core.Path.{_≡_}
-use mathlib.Core.Bool.{Bool, cond}
-use mathlib.Core.List.{List, map}
-use mathlib.Core.Option.{Option, some, none}
-use Prim.Native.Nat.{ℕ, _-_, _/_, _%_}
-use lib.Dec.{eqb, leb}
-use lib.ListN.{length}
-use Rattle.protocol.specs.declared.Entry.{Entry}
-use Rattle.protocol.specs.Tickets.{unreceived}
-use Rattle.protocol.specs.Restart.{enter}
-use Rattle.item.specs.declared.Item.{Item}
-use Rattle.item.specs.Item.{item-of}
+use Rattle.lists.specs.Basics.{_≡_, Bool, cond, List, map, Option, some, none, ℕ, _-_, _/_, _%_, eqb, leb, length}
+use Rattle.protocol.specs.{declared.Entry.Entry, Tickets.unreceived, Restart.enter}
+use Rattle.item.specs.{declared.Item.Item, Item.item-of}
 use Rattle.words.specs.Rows.{row}
-use Rattle.tickets.specs.declared.FoundEntry.{FoundEntry}
-use Rattle.tickets.specs.declared.FoundEntry.the-variants.{Nothing as NoEntry, At as EntryAt}
-use Rattle.tickets.specs.declared.FoundHole.{FoundHole}
-use Rattle.tickets.specs.declared.FoundHole.the-variants.{Nothing as NoHole, At as HoleAt}
+use Rattle.tickets.specs.{declared.FoundEntry.FoundEntry, declared.FoundEntry.the-variants.{Nothing as NoEntry, At as EntryAt}, declared.FoundHole.FoundHole}
+use Rattle.tickets.specs.{declared.FoundHole.the-variants.{Nothing as NoHole, At as HoleAt}}
 
 unfoldable pub as-entry : Item → Entry
 as-entry x = record { sender = x .peer; sn = x .sn; tn = x .tn; received = eqb (x .flags % 2) 1; noted = eqb (x .flags / 2) 1; value = x .value; hops = x .hops }

@@ -1,10 +1,7 @@
 -- An input that comes in pieces of any sizes: the bytes written are the transcript of the whole.
-use mathlib.Core.List.{List, [], _∷_, _++_}
-use mathlib.Core.Path.{_≡_, refl, ap, _∙_}
-use Prim.Native.Nat.{ℕ}
+use Rattle.lists.specs.Basics.{List, [], _∷_, _++_, _≡_, refl, ap, _∙_, ℕ}
 use Rattle.lists.specs.Lists.{gather}
-use Rattle.transcript.specs.Reading.{Reading, beginning, read-all, output, last-output}
-use Rattle.transcript.specs.Pieces.{read-append, output-append, reads-transcript}
+use Rattle.transcript.specs.{Reading.{Reading, beginning, read-all, output, last-output}, Pieces.{read-append, output-append, reads-transcript}}
 use Rattle.protocol.specs.Step.{answers}
 
 unfoldable pub joined : List (List ℕ) → List ℕ

@@ -1,12 +1,6 @@
 -- Copying into an array: what stands there afterwards.
-use mathlib.Core.Logic.{inl, inr}
-use mathlib.Core.List.{List, _++_}
-use mathlib.Core.Path.{_≡_, refl, sym, ap, _∙_}
-use Prim.Native.Nat.{ℕ, _+_, _-_, _≤_, _<_, min}
-use native.Mathlib.Numerals.{add-one}
-use native.Mathlib.Omega.{arith}
-use lib.ListN.{length, take, drop, set, getD, length-set}
-use lib.Seq.{paste, paste-zero, paste-suc, take-paste, take-append-add, length-take-le, take-all}
+use Rattle.lists.specs.Basics.{inl, inr, List, _++_, _≡_, refl, sym, ap, _∙_, ℕ, _+_, _-_, _≤_, _<_, min, add-one, arith, length, take, drop, set, getD, length-set, paste}
+use Rattle.lists.specs.Basics.{paste-zero, paste-suc, take-paste, take-append-add, length-take-le, take-all}
 use Rattle.lists.specs.Tests.{lt?}
 
 module _ {A : Type 0} where

@@ -1,19 +1,10 @@
 -- The state that a reader holds: that of the lines that are finished, and, if it is quiet, demand 3 of it.
-use mathlib.Core.Path.{_≡_, refl, sym, ap, _∙_, subst}
-use mathlib.Core.Bool.{true, false, cond}
-use mathlib.Core.List.{List, [], _∷_, _++_}
-use Prim.Native.Nat.{ℕ, _≤_}
-use borrow.Author.Tests.{le-leb}
-use lib.Dec.{eqb}
+use Rattle.lists.specs.Basics.{_≡_, refl, sym, ap, _∙_, subst, true, false, cond, List, [], _∷_, _++_, ℕ, _≤_, le-leb, eqb}
 use Rattle.lists.specs.Tests.{either}
+use Rattle.protocol.specs.{Frames.Line, Lines.{newline, lines}, Step.{Outcome, step, run}, Demand3.{Quiet, Agrees, Begins, state-after, history-after}, Recovery.Theorem.demand3}
+use Rattle.transcript.specs.{Reading.{Reading, answer-room, within, beginning, read-all, is-empty, finishes, end-state}}
+use Rattle.transcript.specs.{Pieces.{read-cons, continued, lines-continued, kept-step, kept-empty, ends-state, goes-on}}
 use Rattle.protocol.specs.Parts as parts
-use Rattle.protocol.specs.Frames.{Line}
-use Rattle.protocol.specs.Lines.{newline, lines}
-use Rattle.protocol.specs.Step.{Outcome, step, run}
-use Rattle.protocol.specs.Demand3.{Quiet, Agrees, Begins, state-after, history-after}
-use Rattle.protocol.specs.Recovery.Theorem.{demand3}
-use Rattle.transcript.specs.Reading.{Reading, answer-room, within, beginning, read-all, is-empty, finishes, end-state}
-use Rattle.transcript.specs.Pieces.{read-cons, continued, lines-continued, kept-step, kept-empty, ends-state, goes-on}
 
 -- one crash-free run has the state's chares, sequences and unworked messages, and every earlier quiet moment's sequences begin them
 pub record Recovered (s : parts.State) (moment : List Line) : Type 0 where

@@ -1,22 +1,12 @@
 -- The end of an input, and a whole input: what the functions yield, from what feeding yields.
-use mathlib.Core.Bool.{true, false, cond}
-use mathlib.Core.List.{List, [], _∷_, _++_, append-assoc, append-nil}
-use mathlib.Core.Path.{_≡_, refl, sym, ap, _∙_}
-use Prim.Native.Nat.{ℕ, zero, suc, _+_, _-_, _≤_, _<_}
-use native.Mathlib.Omega.{arith}
-use borrow.Author.Tests.{eq-eqb, ne-eqb}
-use lib.Dec.{eqb, leb}
-use lib.ListN.{length, take, drop, length-append, length-drop, drop-of-length-le}
-use lib.Seq.{take-all, take-length, take-at, drop-at, drop-drop}
+use Rattle.lists.specs.Basics.{true, false, cond, List, [], _∷_, _++_, append-assoc, append-nil, _≡_, refl, sym, ap, _∙_, ℕ, zero, suc, _+_, _-_, _≤_, _<_, arith, eq-eqb, ne-eqb}
+use Rattle.lists.specs.Basics.{eqb, leb, length, take, drop, length-append, length-drop, drop-of-length-le, take-all, take-length, take-at, drop-at, drop-drop}
 use Rattle.lists.specs.Tests.{either}
-use Rattle.protocol.specs.Lines.{newline}
+use Rattle.protocol.specs.{Lines.newline, Step.step}
 use Rattle.store.specs.View.{view}
-use Rattle.transcript.specs.Reading.{Reading, LINE, answer-room, within, beginning, read-byte, byte-output, read-all, output, is-empty, last-output, takes, finishes, end-state}
-use Rattle.transcript.specs.Pieces.{output-nil, output-one, kept-empty, reads-transcript}
-use Rattle.protocol.specs.Step.{step}
-use Rattle.transcript.specs.View.{reading, Feeding, ended-demand, end-output, Ending, enough, whole-output, Transcribed}
-use Rattle.transcript.specs.declared.Fed.{Fed}
-use Rattle.transcript.specs.declared.Ended.{Ended}
+use Rattle.transcript.specs.{Reading.{Reading, LINE, answer-room, within, beginning, read-byte, byte-output, read-all, output, is-empty, last-output, takes, finishes, end-state}}
+use Rattle.transcript.specs.{Pieces.{output-nil, output-one, kept-empty, reads-transcript}}
+use Rattle.transcript.specs.{View.{reading, Feeding, ended-demand, end-output, Ending, enough, whole-output, Transcribed}, declared.Fed.Fed, declared.Ended.Ended}
 
 -- ---- what was taken lies within the input, what was written within the buffer
 pub takes-le : (room : ℕ) (r : Reading) (i : List ℕ) → takes room r i ≤ length i

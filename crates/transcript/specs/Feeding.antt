@@ -1,18 +1,11 @@
 -- A reader that has been fed a part of an input and has written into a lent buffer: where it stands, and how it goes on.
-use mathlib.Core.List.{List, [], _++_, append-nil}
-use mathlib.Core.Path.{_≡_, refl, sym, ap, subst, _∙_}
-use Prim.Native.Nat.{ℕ, suc, _+_, _-_, _≤_, _<_}
-use native.Mathlib.Omega.{arith}
-use lib.ListN.{length, take, drop, length-append, length-drop, take-append-drop}
-use lib.Seq.{take-add, drop-drop, take-at, drop-at, take-all, take-take, drop-length}
+use Rattle.lists.specs.Basics.{List, [], _++_, append-nil, _≡_, refl, sym, ap, subst, _∙_, ℕ, suc, _+_, _-_, _≤_, _<_, arith, length, take, drop, length-append, length-drop}
+use Rattle.lists.specs.Basics.{take-append-drop, take-add, drop-drop, take-at, drop-at, take-all, take-take, drop-length}
+use Rattle.protocol.specs.{Frames.Line, Step.{Outcome, step}}
+use Rattle.transcript.specs.{Reading.{Reading, LINE, line-room, answer-room, within, printed, read-all, output, takes}, Pieces.{read-append, output-append, kept-step}}
+use Rattle.transcript.specs.{Copies.put-at, Printed.printed-fits}
+use Rattle.transcript.specs.{LineWise.{line-end, line-end-le, line-part, read-part, silent-part, takes-part, takes-nil, takes-none, read-line, line-output, takes-line}}
 use Rattle.protocol.specs.Parts as parts
-use Rattle.protocol.specs.Frames.{Line}
-use Rattle.protocol.specs.Step.{Outcome, step}
-use Rattle.transcript.specs.Reading.{Reading, LINE, line-room, answer-room, within, printed, read-all, output, takes}
-use Rattle.transcript.specs.Pieces.{read-append, output-append, kept-step}
-use Rattle.transcript.specs.Copies.{put-at}
-use Rattle.transcript.specs.Printed.{printed-fits}
-use Rattle.transcript.specs.LineWise.{line-end, line-end-le, line-part, read-part, silent-part, takes-part, takes-nil, takes-none, read-line, line-output, takes-line}
 
 -- r was fed the first t bytes of the input and is `now`; it wrote w bytes to a buffer that held out₀, and so much is still to be taken
 pub record Fed-so-far (r : Reading) (input out₀ : List ℕ) (now : Reading) (t w : ℕ) (out : List ℕ) : Type 0 where

@@ -1,22 +1,12 @@
 -- Reading line by line is reading byte by byte: up to the next newline, and past it.
-use mathlib.Core.Bool.{true, false}
-use mathlib.Core.List.{List, [], _∷_, _++_, append-assoc, append-nil}
-use mathlib.Core.Path.{_≡_, refl, ap, _∙_}
-use Prim.Native.Nat.{ℕ, suc, _+_, _-_, _≤_, _<_}
-use native.Mathlib.Numerals.{add-one}
-use native.Mathlib.Omega.{arith}
-use borrow.Author.Tests.{le-leb, lt-leb, eqb-true, eq-eqb, ne-eqb}
-use lib.Dec.{eqb}
-use lib.ListN.{length, take, drop, getD, length-drop, drop-of-length-le}
-use lib.Seq.{drop-cons, take-suc, take-all}
+use Rattle.lists.specs.Basics.{true, false, List, [], _∷_, _++_, append-assoc, append-nil, _≡_, refl, ap, _∙_, ℕ, suc, _+_, _-_, _≤_, _<_, add-one, arith, le-leb, lt-leb, eqb-true}
+use Rattle.lists.specs.Basics.{eq-eqb, ne-eqb, eqb, length, take, drop, getD, length-drop, drop-of-length-le, drop-cons, take-suc, take-all}
 use Rattle.lists.specs.Tests.{either}
 use Rattle.arrays.specs.Place.{place, place-le}
+use Rattle.protocol.specs.{Frames.Line, Lines.newline, Step.step}
+use Rattle.transcript.specs.{Reading.{Reading, answer-room, within, printed, read-byte, byte-output, read-all, output, takes}}
+use Rattle.transcript.specs.{Pieces.{read-cons, output-cons, read-one, output-one, read-append, output-append, ends-state, ends-output, goes-on, goes-on-silent}}
 use Rattle.protocol.specs.Parts as parts
-use Rattle.protocol.specs.Frames.{Line}
-use Rattle.protocol.specs.Lines.{newline}
-use Rattle.protocol.specs.Step.{step}
-use Rattle.transcript.specs.Reading.{Reading, answer-room, within, printed, read-byte, byte-output, read-all, output, takes}
-use Rattle.transcript.specs.Pieces.{read-cons, output-cons, read-one, output-one, read-append, output-append, ends-state, ends-output, goes-on, goes-on-silent}
 
 -- how many bytes stand before the first newline; all, where there is none
 unfoldable pub line-end : List ℕ → ℕ

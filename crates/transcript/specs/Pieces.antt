@@ -1,20 +1,11 @@
 -- An input in pieces is the whole input, and reading it byte by byte gives its transcript.
-use mathlib.Core.Bool.{true, false, cond}
-use mathlib.Core.List.{List, [], _∷_, _++_, append-assoc, append-nil}
-use mathlib.Core.Path.{_≡_, refl, sym, ap, _∙_}
-use Prim.Native.Nat.{ℕ, zero, suc}
-use native.Mathlib.Omega.{arith}
-use lib.Dec.{eqb}
-use lib.ListN.{length, take, length-take}
-use lib.Seq.{take-all, take-nil}
-use mathlib.Core.Logic.{inl, inr}
+use Rattle.lists.specs.Basics.{true, false, cond, List, [], _∷_, _++_, append-assoc, append-nil, _≡_, refl, sym, ap, _∙_, ℕ, zero, suc, arith, eqb, length, take, length-take}
+use Rattle.lists.specs.Basics.{take-all, take-nil, inl, inr}
 use Rattle.lists.specs.Tests.{either, lt?}
-use Rattle.protocol.specs.Parts as parts
-use Rattle.protocol.specs.Frames.{Line}
-use Rattle.protocol.specs.Lines.{newline, extend, lines, line, print}
+use Rattle.protocol.specs.{Frames.Line, Lines.{newline, extend, lines, line, print}, Step.{step, answers-from, answers}}
 use Rattle.engine.specs.LongLine.{long-line}
-use Rattle.protocol.specs.Step.{step, answers-from, answers}
 use Rattle.transcript.specs.Reading.{Reading, line-room, within, beginning, printed, read-byte, byte-output, read-all, output, is-empty, last-output}
+use Rattle.protocol.specs.Parts as parts
 
 -- ---- pieces
 pub read-cons : (r : Reading) (b : ℕ) (i : List ℕ) → read-all r (b ∷ i) ≡ read-all (read-byte r b) i

@@ -1,14 +1,7 @@
 -- An answer's line with its newline has at most 15 bytes.
-use mathlib.Core.List.{List, [], _∷_, _++_}
-use mathlib.Core.Path.{_≡_, refl, ap, _∙_}
-use Prim.Native.Nat.{ℕ, zero, suc, _+_, _≤_, _/_}
-use native.Mathlib.Omega.{arith}
-use lib.ListN.{length, take, drop, length-append, length-take}
-use Rattle.protocol.specs.declared.Answer.{Answer}
-use Rattle.protocol.specs.declared.Answer.the-variants.{Accepted, Shown, Lost, Refused}
-use Rattle.protocol.specs.Lines.{newline, hexadecimal, two-decimals, line}
-use Rattle.transcript.specs.Copies.{put-at, Copied}
-use Rattle.transcript.specs.Reading.{answer-room, printed}
+use Rattle.lists.specs.Basics.{List, [], _∷_, _++_, _≡_, refl, ap, _∙_, ℕ, zero, suc, _+_, _≤_, _/_, arith, length, take, drop, length-append, length-take}
+use Rattle.protocol.specs.{declared.Answer.Answer, declared.Answer.the-variants.{Accepted, Shown, Lost, Refused}, Lines.{newline, hexadecimal, two-decimals, line}}
+use Rattle.transcript.specs.{Copies.{put-at, Copied}, Reading.{answer-room, printed}}
 
 length-hexadecimal : (k n : ℕ) → length (hexadecimal k n) ≡ k
 unfolding hexadecimal

@@ -1,14 +1,7 @@
 -- A reader that is fed byte by byte: the state, and what it has of the line under way.
-use mathlib.Core.Bool.{Bool, true, false, cond, _||_}
-use mathlib.Core.List.{List, [], _∷_, _++_}
-use Prim.Native.Nat.{ℕ, suc, _-_}
-use lib.Dec.{eqb, leb}
-use lib.ListN.{length, take}
-use Rattle.protocol.specs.declared.Answer.{Answer}
+use Rattle.lists.specs.Basics.{Bool, true, false, cond, _||_, List, [], _∷_, _++_, ℕ, suc, _-_, eqb, leb, length, take}
+use Rattle.protocol.specs.{declared.Answer.Answer, Frames.Line, Lines.{newline, line}, Step.step}
 use Rattle.protocol.specs.Parts as parts
-use Rattle.protocol.specs.Frames.{Line}
-use Rattle.protocol.specs.Lines.{newline, line}
-use Rattle.protocol.specs.Step.{step}
 
 -- One more than the longest frame has digits: of a longer line the first bytes are kept, which are no frame either.
 abbrev pub LINE : ℕ

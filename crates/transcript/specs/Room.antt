@@ -1,22 +1,11 @@
 -- A buffer of 15 bytes a line has room for every answer.
-use mathlib.Core.Bool.{true, false}
-use mathlib.Core.List.{List, [], _∷_, _++_}
-use mathlib.Core.Path.{_≡_, refl, sym, ap, _∙_}
-use Prim.Native.Nat.{ℕ, suc, _+_, _*_, _-_, _≤_, _<_}
-use native.Mathlib.Omega.{arith}
-use borrow.Author.Tests.{eq-eqb, le-leb}
-use lib.Dec.{eqb}
-use lib.ListN.{length, length-append}
+use Rattle.lists.specs.Basics.{true, false, List, [], _∷_, _++_, _≡_, refl, sym, ap, _∙_, ℕ, suc, _+_, _*_, _-_, _≤_, _<_, arith, eq-eqb, le-leb, eqb, length, length-append}
 use Rattle.lists.specs.Tests.{either}
+use Rattle.protocol.specs.{Frames.Line, Lines.{newline, lines}, Step.{step, answers}}
+use Rattle.transcript.specs.{Reading.{Reading, answer-room, within, beginning, printed, read-byte, byte-output, read-all, output, is-empty, takes, finishes}}
+use Rattle.transcript.specs.{Pieces.{read-cons, output-nil, output-cons, continued, lines-continued, kept-empty, ends-state, ends-output, goes-on, goes-on-silent}}
+use Rattle.transcript.specs.{LineWise.{takes-nil, takes-cons}, Printed.printed-fits, View.{enough, whole-output}}
 use Rattle.protocol.specs.Parts as parts
-use Rattle.protocol.specs.Frames.{Line}
-use Rattle.protocol.specs.Lines.{newline, lines}
-use Rattle.protocol.specs.Step.{step, answers}
-use Rattle.transcript.specs.Reading.{Reading, answer-room, within, beginning, printed, read-byte, byte-output, read-all, output, is-empty, takes, finishes}
-use Rattle.transcript.specs.Pieces.{read-cons, output-nil, output-cons, continued, lines-continued, kept-empty, ends-state, ends-output, goes-on, goes-on-silent}
-use Rattle.transcript.specs.LineWise.{takes-nil, takes-cons}
-use Rattle.transcript.specs.Printed.{printed-fits}
-use Rattle.transcript.specs.View.{enough, whole-output}
 
 -- a line that was begun is a line
 begun-stays : (l : Line) (b : ℕ) → is-empty (l ++ (b ∷ [])) ≡ false

@@ -1,23 +1,11 @@
 -- A store and a line under way as a reader of the definitions, and what the exported functions yield.
-use mathlib.Core.Bool.{Bool, true, cond, _&&_}
-use mathlib.Core.List.{List, [], _++_}
-use mathlib.Core.Path.{_≡_, sym, ap, subst, _∙_}
-use Prim.Native.Nat.{ℕ, _-_}
-use native.Mathlib.Omega.{arith}
-use lib.Dec.{eqb}
-use lib.ListN.{length, take, drop, replicate}
-use Rattle.store.specs.Places.{STORE}
+use Rattle.lists.specs.Basics.{Bool, true, cond, _&&_, List, [], _++_, _≡_, sym, ap, subst, _∙_, ℕ, _-_, arith, eqb, length, take, drop, replicate}
+use Rattle.store.specs.{Places.STORE, View.view}
 use Rattle.opening.specs.Zeros.{zeros-start}
-use Rattle.store.specs.View.{view}
-use Rattle.transcript.specs.Reading.{Reading, LINE, answer-room, within, beginning, read-all, output, last-output, takes, finishes, end-state}
-use Rattle.transcript.specs.Pieces.{read-append}
-use Rattle.transcript.specs.Feeding.{Fed-so-far}
-use Rattle.transcript.specs.Demand.{After, after, finished, finished-state, ended-state, enough-end}
-use Rattle.transcript.specs.declared.Fed.{Fed}
-use Rattle.transcript.specs.declared.Ended.{Ended}
+use Rattle.transcript.specs.{Reading.{Reading, LINE, answer-room, within, beginning, read-all, output, last-output, takes, finishes, end-state}, Pieces.read-append}
+use Rattle.transcript.specs.{Feeding.Fed-so-far, Demand.{After, after, finished, finished-state, ended-state, enough-end}, declared.Fed.Fed, declared.Ended.Ended}
+use Rattle.protocol.specs.{Lines.lines, Step.answers}
 use Rattle.protocol.specs.Parts as parts
-use Rattle.protocol.specs.Lines.{lines}
-use Rattle.protocol.specs.Step.{answers}
 
 -- a store that has read n bytes of the line under way
 unfoldable pub reading : List ℕ → List ℕ → ℕ → Reading

@@ -1,16 +1,15 @@
 -- The rotation by 5: two shifts make it, and its bits move round.
-use mathlib.Core.Path.{_≡_, sym, _∙_, ap}
-use mathlib.Core.Logic.{inl, inr}
-use Prim.Native.Nat.{ℕ, suc, _+_, _-_, _*_, _/_, _%_, _^_, _<_}
-use native.Mathlib.Omega.{arith}
-use lib.Bits.{bitOr, or-shifted}
-use lib.Dec.{eqb}
-use lib.Pow.{field, high, low, mod-mod-pow, shr-lt}
+use Rattle.lists.specs.Basics.{_≡_, sym, _∙_, ap, inl, inr, ℕ, suc, _+_, _-_, _*_, _/_, _%_, _^_, _<_, arith, eqb}
 use Rattle.lists.specs.Tests.{lt?}
-use Rattle.protocol.specs.Window.{Bits}
-use Rattle.protocol.specs.Work.{rotate}
-use Rattle.window.specs.Bits.{bits}
-use Rattle.window.specs.BitLaws.{shift-bits}
+use Rattle.protocol.specs.{Window.Bits, Work.rotate}
+use Rattle.window.specs.{Bits.bits, BitLaws.shift-bits}
+use lib.Bits.{bitOr}
+use lib.Bits.{or-shifted}
+use lib.Pow.{field}
+use lib.Pow.{high}
+use lib.Pow.{low}
+use lib.Pow.{mod-mod-pow}
+use lib.Pow.{shr-lt}
 
 -- the 27 low bits move up by 5, the 5 high ones come round to the places left empty
 rotated : (x : ℕ) → rotate x ≡ x % 2 ^ 27 * 2 ^ 5 + x / 2 ^ 27

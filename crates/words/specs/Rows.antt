@@ -1,15 +1,8 @@
 -- A counted row of words: the count, then the items. A count above the room counts as the room.
-use mathlib.Core.Path.{_≡_, refl, sym, ap, _∙_}
-use mathlib.Core.Bool.{Bool, true, false}
-use mathlib.Core.List.{List, [], _∷_, _++_, append-nil}
-use Prim.Native.Nat.{ℕ, suc, zero, _+_, _-_, _*_, _%_, _≤_, _<_, min}
-use native.Mathlib.Omega.{arith}
-use native.Mathlib.Numerals.{add-one}
-use lib.Dec.{eqb}
-use lib.ListN.{length, take, drop, getD, set, length-drop, length-set, drop-of-length-le}
-use lib.Seq.{getD-drop, drop-set-add, drop-set-lt, getD-set-same, getD-set-other, take-take, take-all}
-use Rattle.arrays.specs.Front.{push, front-length, front-at, put-at, push-room, no-room, front-beyond}
-use Rattle.arrays.specs.Place.{place, place-hit, place-miss, place-end}
+use Rattle.lists.specs.Basics.{_≡_, refl, sym, ap, _∙_, Bool, true, false, List, [], _∷_, _++_, append-nil, ℕ, suc, zero, _+_, _-_, _*_, _%_, _≤_, _<_, min, arith, add-one, eqb}
+use Rattle.lists.specs.Basics.{length, take, drop, getD, set, length-drop, length-set, drop-of-length-le, getD-drop, drop-set-add, drop-set-lt, getD-set-same, getD-set-other}
+use Rattle.lists.specs.Basics.{take-take, take-all}
+use Rattle.arrays.specs.{Front.{push, front-length, front-at, put-at, push-room, no-room, front-beyond}, Place.{place, place-hit, place-miss, place-end}}
 
 unfoldable pub row : List ℕ → List ℕ
 row ws = take (min (getD ws 0 0) (length ws - 1)) (drop 1 ws)

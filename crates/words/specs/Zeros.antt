@@ -1,13 +1,7 @@
 -- Words that are all 0.
-use mathlib.Core.Path.{_≡_, refl, sym, ap, _∙_}
-use mathlib.Core.List.{List, [], _∷_, _++_}
-use Prim.Native.Nat.{ℕ, suc, zero, _+_, _-_, _≤_, _<_, min}
-use native.Mathlib.Omega.{arith}
-use native.Mathlib.Numerals.{add-one}
-use lib.ListN.{length, take, drop, getD, set, replicate}
-use lib.Seq.{take-suc-set, take-all}
-use Rattle.words.specs.Part.{part}
-use Rattle.words.specs.Rows.{row}
+use Rattle.lists.specs.Basics.{_≡_, refl, sym, ap, _∙_, List, [], _∷_, _++_, ℕ, suc, zero, _+_, _-_, _≤_, _<_, min, arith, add-one, length, take, drop, getD, set, replicate}
+use Rattle.lists.specs.Basics.{take-suc-set, take-all}
+use Rattle.words.specs.{Part.part, Rows.row}
 
 abbrev pub zeros : ℕ → List ℕ
 zeros n = replicate n 0

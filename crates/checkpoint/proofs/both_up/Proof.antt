@@ -1,7 +1,5 @@
 -- `checkpoint::both_up` meets its contract: one, then the other.
-use mathlib.Core.Path.{sym, _∙_}
-use borrow.Author.Tests.{not-true, not-false}
-use borrow.Author.Needs.{needs}
+use Rattle.lists.specs.Basics.{sym, _∙_, not-true, not-false, needs}
 use Rattle.checkpoint.proofs.both_up.Statement.{statement}
 use Rattle.checkpoint.proofs.both_up.Tie as tie
 

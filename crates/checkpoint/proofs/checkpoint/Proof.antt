@@ -1,9 +1,7 @@
 -- `checkpoint::checkpoint` meets its contract: refused, or fixed, held and cleaned.
-use native.Mathlib.Omega.{arith}
-use borrow.Author.Needs.{needs}
+use Rattle.lists.specs.Basics.{arith, needs}
 use Rattle.arrays.specs.ArrayMap.{as-map}
-use Rattle.store.specs.Framing.{refused, accepted}
-use Rattle.store.specs.View.{view, tried}
+use Rattle.store.specs.{Framing.{refused, accepted}, View.{view, tried}}
 use Rattle.checkpoint.specs.Whole.{checkpoint-in, checkpoint-is}
 use Rattle.checkpoint.proofs.checkpoint.Statement.{statement}
 use Rattle.checkpoint.proofs.checkpoint.Tie as tie

@@ -1,13 +1,8 @@
 -- `checkpoint::clean` meets its contract: the logs below n are cleaned.
-use mathlib.Core.Path.{_≡_, sym, _∙_}
-use Prim.Native.Nat.{_+_, _-_, _*_, _≤_}
-use native.Mathlib.Omega.{arith}
-use borrow.Author.Needs.{needs}
-use lib.ListN.{length}
+use Rattle.lists.specs.Basics.{_≡_, sym, _∙_, _+_, _-_, _*_, _≤_, arith, needs, length}
 use Rattle.arrays.specs.ArrayMap.{as-map}
 use Rattle.memory.specs.Places.{MEMORY}
-use Rattle.store.specs.Places.{STORE, LIVE}
-use Rattle.store.specs.View.{view}
+use Rattle.store.specs.{Places.{STORE, LIVE}, View.view}
 use Rattle.checkpoint.specs.Cleaning.{cleaned-to, clean-none, clean-miss, clean-hit, clean-end}
 use Rattle.checkpoint.proofs.clean.Statement.{statement}
 use Rattle.checkpoint.proofs.clean.Tie as tie

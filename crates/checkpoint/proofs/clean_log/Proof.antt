@@ -1,6 +1,5 @@
 -- `checkpoint::clean_log` meets its contract: the log is the row that the memory lends.
-use native.Mathlib.Omega.{arith}
-use borrow.Author.Needs.{needs}
+use Rattle.lists.specs.Basics.{arith, needs}
 use Rattle.arrays.specs.ArrayMap.{as-map}
 use Rattle.checkpoint.specs.Rows.{clean-is}
 use Rattle.checkpoint.proofs.clean_log.Statement.{statement}

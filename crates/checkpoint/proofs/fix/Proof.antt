@@ -1,13 +1,7 @@
 -- `checkpoint::fix` meets its contract: the chares below n are pruned and copied.
-use mathlib.Core.Path.{_≡_, sym, _∙_}
-use Prim.Native.Nat.{_+_, _-_, _*_, _≤_}
-use native.Mathlib.Omega.{arith}
-use borrow.Author.Needs.{needs}
-use lib.ListN.{length}
+use Rattle.lists.specs.Basics.{_≡_, sym, _∙_, _+_, _-_, _*_, _≤_, arith, needs, length}
 use Rattle.memory.specs.Places.{MEMORY}
-use Rattle.store.specs.ViewLaws.{apart}
-use Rattle.store.specs.Places.{STORE, LIVE}
-use Rattle.store.specs.View.{view}
+use Rattle.store.specs.{ViewLaws.apart, Places.{STORE, LIVE}, View.view}
 use Rattle.checkpoint.specs.Fixing.{fixed-to, fix-none, fix-miss, fix-hit, fix-end}
 use Rattle.checkpoint.proofs.fix.Statement.{statement}
 use Rattle.checkpoint.proofs.fix.Tie as tie

@@ -1,12 +1,6 @@
 -- `checkpoint::hold` meets its contract: one word of the head, then the notes.
-use mathlib.Core.List.{[]}
-use mathlib.Core.Path.{_≡_, sym, _∙_}
-use Prim.Native.Nat.{_+_, _-_, _*_}
-use native.Mathlib.Omega.{arith}
-use borrow.Author.Needs.{needs}
-use lib.ListN.{length-set}
-use Rattle.store.specs.Visits.{held-length, held-put}
-use Rattle.store.specs.Places.{NOTES, NOTELIST}
+use Rattle.lists.specs.Basics.{[], _≡_, sym, _∙_, _+_, _-_, _*_, arith, needs, length-set}
+use Rattle.store.specs.{Visits.{held-length, held-put}, Places.{NOTES, NOTELIST}}
 use Rattle.checkpoint.specs.Parts.{holding}
 use Rattle.checkpoint.proofs.hold.Statement.{statement}
 use Rattle.checkpoint.proofs.hold.Tie as tie

@@ -1,5 +1,5 @@
 -- `checkpoint::judge` meets its contract: each question by the function that answers it.
-use borrow.Author.Needs.{needs}
+use Rattle.lists.specs.Basics.{needs}
 use Rattle.checkpoint.specs.Whole.{asked}
 use Rattle.checkpoint.proofs.judge.Statement.{statement}
 use Rattle.checkpoint.proofs.judge.Tie as tie

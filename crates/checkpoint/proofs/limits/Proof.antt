@@ -1,13 +1,8 @@
 -- `checkpoint::limits` meets its contract: the chares below n have their limit.
-use mathlib.Core.Path.{_≡_, refl, sym, _∙_}
-use Prim.Native.Nat.{_+_, _-_, _*_, _≤_}
-use native.Mathlib.Omega.{arith}
-use borrow.Author.Needs.{needs}
-use lib.ListN.{length-set, length}
+use Rattle.lists.specs.Basics.{_≡_, refl, sym, _∙_, _+_, _-_, _*_, _≤_, arith, needs, length-set, length}
 use Rattle.arrays.specs.ArrayMap.{as-map}
 use Rattle.memory.specs.Places.{MEMORY}
-use Rattle.store.specs.Places.{LIVE}
-use Rattle.store.specs.View.{view}
+use Rattle.store.specs.{Places.LIVE, View.view}
 use Rattle.checkpoint.specs.Limits.{limits-to, limits-none, limits-miss, limits-hit, limits-end}
 use Rattle.checkpoint.proofs.limits.Statement.{statement}
 use Rattle.checkpoint.proofs.limits.Tie as tie

@@ -1,6 +1,5 @@
 -- `checkpoint::prune` meets its contract: the table is the row that the memory lends.
-use native.Mathlib.Omega.{arith}
-use borrow.Author.Needs.{needs}
+use Rattle.lists.specs.Basics.{arith, needs}
 use Rattle.checkpoint.specs.Rows.{prune-is}
 use Rattle.checkpoint.proofs.prune.Statement.{statement}
 use Rattle.checkpoint.proofs.prune.Tie as tie

@@ -1,7 +1,5 @@
 -- `crash::crash` meets its contract: refused, lost without cover, or down.
-use native.Mathlib.Omega.{arith}
-use borrow.Author.Tests.{not-true, not-false}
-use borrow.Author.Needs.{needs}
+use Rattle.lists.specs.Basics.{arith, not-true, not-false, needs}
 use Rattle.store.specs.Framing.{refused}
 use Rattle.crash.specs.Whole.{crash-in, covered, uncovered}
 use Rattle.crash.proofs.crash.Statement.{statement}

@@ -1,12 +1,7 @@
 -- `crash::go_down` meets its contract: one part after the other.
-use mathlib.Core.Path.{_≡_}
-use Prim.Native.Nat.{_+_}
-use native.Mathlib.Omega.{arith}
-use borrow.Author.Needs.{needs}
-use lib.ListN.{length, set, length-set}
+use Rattle.lists.specs.Basics.{_≡_, _+_, arith, needs, length, set, length-set}
 use Rattle.head.specs.Head.{STATUS}
-use Rattle.store.specs.View.{view}
-use Rattle.store.specs.Places.{STORE}
+use Rattle.store.specs.{View.view, Places.STORE}
 use Rattle.crash.specs.Whole.{crash-is}
 use Rattle.crash.proofs.go_down.Statement.{statement}
 use Rattle.crash.proofs.go_down.Tie as tie

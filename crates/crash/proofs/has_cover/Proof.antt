@@ -1,9 +1,5 @@
 -- `crash::has_cover` meets its contract: the machines before q are normal, so the answer is that for the rest.
-use mathlib.Core.Path.{_≡_, sym, _∙_}
-use Prim.Native.Nat.{_-_, _≤_}
-use native.Mathlib.Omega.{arith}
-use borrow.Author.Tests.{not-true, not-false}
-use borrow.Author.Needs.{needs}
+use Rattle.lists.specs.Basics.{_≡_, sym, _∙_, _-_, _≤_, arith, not-true, not-false, needs}
 use Rattle.arrays.specs.Loops.{each, each-hit, each-miss, each-end}
 use Rattle.protocol.specs.Crash.{is-normal}
 use Rattle.store.specs.View.{view}

@@ -1,7 +1,6 @@
 -- `crash::is_normal` meets its contract: status by status.
-use borrow.Author.Needs.{needs}
-use Rattle.protocol.specs.Crash.{is-normal}
-use Rattle.protocol.specs.Parts.{is-down, is-catching-up}
+use Rattle.lists.specs.Basics.{needs}
+use Rattle.protocol.specs.{Crash.is-normal, Parts.{is-down, is-catching-up}}
 use Rattle.store.specs.View.{view}
 use Rattle.crash.proofs.is_normal.Statement.{statement}
 use Rattle.crash.proofs.is_normal.Tie as tie

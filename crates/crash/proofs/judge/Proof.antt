@@ -1,5 +1,5 @@
 -- `crash::judge` meets its contract: each question by the function that answers it.
-use borrow.Author.Needs.{needs}
+use Rattle.lists.specs.Basics.{needs}
 use Rattle.crash.specs.Whole.{asked}
 use Rattle.crash.proofs.judge.Statement.{statement}
 use Rattle.crash.proofs.judge.Tie as tie

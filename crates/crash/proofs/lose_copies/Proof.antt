@@ -1,12 +1,7 @@
 -- `crash::lose_copies` meets its contract: the chares below n are done.
-use mathlib.Core.Path.{_≡_}
-use Prim.Native.Nat.{_+_, _-_, _*_, _≤_}
-use native.Mathlib.Omega.{arith}
-use borrow.Author.Needs.{needs}
-use lib.ListN.{length}
+use Rattle.lists.specs.Basics.{_≡_, _+_, _-_, _*_, _≤_, arith, needs, length}
 use Rattle.memory.specs.Places.{MEMORY}
-use Rattle.store.specs.Places.{STORE, COPY}
-use Rattle.store.specs.View.{view}
+use Rattle.store.specs.{Places.{STORE, COPY}, View.view}
 use Rattle.crash.specs.Memories.{copy-to, copy-none, copy-miss, copy-hit, copy-end}
 use Rattle.crash.proofs.lose_copies.Statement.{statement}
 use Rattle.crash.proofs.lose_copies.Tie as tie

@@ -1,12 +1,7 @@
 -- `crash::lose_live` meets its contract: the chares below n are done.
-use mathlib.Core.Path.{_≡_, sym, _∙_}
-use Prim.Native.Nat.{_+_, _-_, _*_, _≤_}
-use native.Mathlib.Omega.{arith}
-use borrow.Author.Needs.{needs}
-use lib.ListN.{length}
+use Rattle.lists.specs.Basics.{_≡_, sym, _∙_, _+_, _-_, _*_, _≤_, arith, needs, length}
 use Rattle.memory.specs.Places.{MEMORY}
-use Rattle.store.specs.Places.{STORE, LIVE}
-use Rattle.store.specs.View.{view}
+use Rattle.store.specs.{Places.{STORE, LIVE}, View.view}
 use Rattle.crash.specs.Memories.{live-to, live-none, live-miss, live-hit, live-end}
 use Rattle.crash.proofs.lose_live.Statement.{statement}
 use Rattle.crash.proofs.lose_live.Tie as tie

@@ -1,12 +1,6 @@
 -- `crash::lose_notes` meets its contract: the machines below n are done.
-use mathlib.Core.Path.{_≡_}
-use Prim.Native.Nat.{_+_, _-_, _*_, _≤_}
-use native.Mathlib.Omega.{arith}
-use borrow.Author.Needs.{needs}
-use lib.ListN.{length-set, length}
-use Rattle.store.specs.Visits.{held-length}
-use Rattle.store.specs.Places.{STORE, NOTES, NOTELIST}
-use Rattle.store.specs.View.{view}
+use Rattle.lists.specs.Basics.{_≡_, _+_, _-_, _*_, _≤_, arith, needs, length-set, length}
+use Rattle.store.specs.{Visits.held-length, Places.{STORE, NOTES, NOTELIST}, View.view}
 use Rattle.crash.specs.Keeping.{kept-to, kept-none, kept-miss, kept-hit, kept-end}
 use Rattle.crash.proofs.lose_notes.Statement.{statement}
 use Rattle.crash.proofs.lose_notes.Tie as tie

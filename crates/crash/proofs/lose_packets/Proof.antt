@@ -1,6 +1,5 @@
 -- `crash::lose_packets` meets its contract: the head is copied, then the wire is lent.
-use native.Mathlib.Omega.{arith}
-use borrow.Author.Needs.{needs}
+use Rattle.lists.specs.Basics.{arith, needs}
 use Rattle.crash.specs.Whole.{wire-is}
 use Rattle.crash.proofs.lose_packets.Statement.{statement}
 use Rattle.crash.proofs.lose_packets.Tie as tie

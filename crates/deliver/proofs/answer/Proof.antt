@@ -1,9 +1,5 @@
 -- `answer`: off the wire, and the reply, if any, at its end.
-use mathlib.Core.Path.{_≡_, _∙_}
-use Prim.Native.Nat.{_-_}
-use native.Mathlib.Omega.{arith}
-use borrow.Author.Needs.{needs}
-use lib.ListN.{length}
+use Rattle.lists.specs.Basics.{_≡_, _∙_, _-_, arith, needs, length}
 use Rattle.deliver.specs.View.{answered}
 use Rattle.deliver.proofs.answer.Statement.{statement}
 use Rattle.deliver.proofs.answer.Tie as tie

@@ -1,10 +1,5 @@
 -- `deliver`: the first questions, the packet, and where it goes; each law of `Whole` is one way out.
-use mathlib.Core.Path.{_≡_, _∙_}
-use mathlib.Core.Bool.{cond}
-use mathlib.Core.Logic.{⊎-elim}
-use borrow.Author.Needs.{needs}
-use borrow.Author.Tests.{eq-eqb, ne-eqb}
-use lib.Dec.{eqb}
+use Rattle.lists.specs.Basics.{_≡_, _∙_, cond, ⊎-elim, needs, eq-eqb, ne-eqb, eqb}
 use Rattle.deliver.specs.Whole.{frame-refused, frame-missing, waiting, place-fits, to-chare, to-notes}
 use Rattle.deliver.proofs.Tags.{no-note}
 use Rattle.deliver.proofs.deliver.Statement.{statement}

@@ -1,8 +1,5 @@
 -- `deliver_note`: the list for the receiver's machine, then the wire.
-use mathlib.Core.Path.{_≡_}
-use Prim.Native.Nat.{ℕ, _+_, _-_}
-use native.Mathlib.Omega.{arith}
-use borrow.Author.Needs.{needs}
+use Rattle.lists.specs.Basics.{_≡_, ℕ, _+_, _-_, arith, needs}
 use Rattle.store.specs.Places.{NOTELIST, notes-from}
 use Rattle.deliver.specs.InPlace.{note-refused, note-done}
 use Rattle.deliver.proofs.deliver_note.Statement.{statement}

@@ -1,8 +1,5 @@
 -- `deliver_to`: the memory of the chare, then the wire.
-use mathlib.Core.Path.{_≡_}
-use Prim.Native.Nat.{ℕ, _+_, _-_}
-use native.Mathlib.Omega.{arith}
-use borrow.Author.Needs.{needs}
+use Rattle.lists.specs.Basics.{_≡_, ℕ, _+_, _-_, arith, needs}
 use Rattle.memory.specs.Places.{MEMORY}
 use Rattle.store.specs.Places.{live-from}
 use Rattle.deliver.specs.InPlace.{chare-refused, chare-done}

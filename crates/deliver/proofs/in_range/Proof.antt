@@ -1,7 +1,5 @@
 -- `in_range` puts its tests one after the other.
-use mathlib.Core.Path.{sym, _∙_}
-use borrow.Author.Tests.{le-leb, lt-leb, not-true, not-false}
-use borrow.Author.Needs.{needs}
+use Rattle.lists.specs.Basics.{sym, _∙_, le-leb, lt-leb, not-true, not-false, needs}
 use Rattle.protocol.specs.Frames.{between}
 use Rattle.deliver.specs.Frame.{in-range}
 use Rattle.deliver.proofs.in_range.Statement.{statement}

@@ -1,6 +1,5 @@
 -- `judge` puts questions 2 to 5.
-use mathlib.Core.Path.{_∙_}
-use borrow.Author.Needs.{needs}
+use Rattle.lists.specs.Basics.{_∙_, needs}
 use Rattle.deliver.specs.Frame.{first-questions}
 use Rattle.deliver.proofs.judge.Statement.{statement}
 use Rattle.deliver.proofs.judge.Tie as tie

@@ -1,13 +1,8 @@
 -- `note`: present, no room, or stored.
-use mathlib.Core.Path.{_≡_, refl, sym, _∙_}
-use Prim.Native.Nat.{_-_}
-use native.Mathlib.Omega.{arith}
-use borrow.Author.Needs.{needs}
-use lib.ListN.{length}
+use Rattle.lists.specs.Basics.{_≡_, refl, sym, _∙_, _-_, arith, needs, length}
 use Rattle.protocol.specs.Packets.{note-of}
 use Rattle.notelist.specs.Fits.{fitted-same}
-use Rattle.deliver.specs.NoteEffect.{note-present, notes-full, note-stored}
-use Rattle.deliver.specs.View.{passes, stops}
+use Rattle.deliver.specs.{NoteEffect.{note-present, notes-full, note-stored}, View.{passes, stops}}
 use Rattle.deliver.proofs.note.Statement.{statement}
 use Rattle.deliver.proofs.note.Tie as tie
 

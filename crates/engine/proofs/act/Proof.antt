@@ -1,8 +1,7 @@
 -- `act` goes by the frame: each arm's crate gives what `acted` says.
-use mathlib.Core.Path.{refl}
+use Rattle.lists.specs.Basics.{refl, needs}
 use Rattle.store.specs.Framing.{refuses}
 use Rattle.engine.specs.Dispatch.{acted}
-use borrow.Author.Needs.{needs}
 use Rattle.engine.proofs.act.Statement.{statement}
 use Rattle.engine.proofs.act.Tie as tie
 

@@ -1,5 +1,5 @@
+use Rattle.lists.specs.Basics.{needs}
 use Rattle.engine.specs.Play.{settles}
-use borrow.Author.Needs.{needs}
 use Rattle.engine.proofs.is_accepted.Statement.{statement}
 use Rattle.engine.proofs.is_accepted.Tie as tie
 

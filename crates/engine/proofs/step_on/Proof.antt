@@ -1,6 +1,5 @@
-use mathlib.Core.Path.{sym, _∙_}
+use Rattle.lists.specs.Basics.{sym, _∙_, needs}
 use Rattle.engine.specs.Stepped.{stepped, left}
-use borrow.Author.Needs.{needs}
 use Rattle.engine.proofs.step_on.Statement.{statement}
 use Rattle.engine.proofs.step_on.Tie as tie
 

@@ -1,8 +1,6 @@
 -- `frames::byte` meets its contract: within the line the byte of two characters, past its end 0.
-use mathlib.Core.Path.{sym, _∙_}
-use borrow.Author.Needs.{needs}
-use Rattle.frames.specs.CodeLaws.{byte-of}
-use Rattle.frames.specs.DecodeLaws.{decoded-end}
+use Rattle.lists.specs.Basics.{sym, _∙_, needs}
+use Rattle.frames.specs.{CodeLaws.byte-of, DecodeLaws.decoded-end}
 use Rattle.frames.proofs.byte.Statement.{statement}
 use Rattle.frames.proofs.byte.Tie as tie
 

@@ -1,7 +1,6 @@
 -- `frames::deliver` meets its contract: five codes, judged by their sum.
-use borrow.Author.Needs.{needs}
-use Rattle.frames.specs.CodeLaws.{pair-small}
-use Rattle.frames.specs.FieldLaws.{deliver-none, deliver-fields}
+use Rattle.lists.specs.Basics.{needs}
+use Rattle.frames.specs.{CodeLaws.pair-small, FieldLaws.{deliver-none, deliver-fields}}
 use Rattle.frames.proofs.deliver.Statement.{statement}
 use Rattle.frames.proofs.deliver.Tie as tie
 

@@ -1,11 +1,6 @@
 -- `frames::digit` meets its contract: a range of characters after the other, and what stands in none of them.
-use mathlib.Core.Logic.{⊎-elim}
-use mathlib.Core.Path.{_∙_}
-use native.Mathlib.Omega.{arith}
-use borrow.Author.Needs.{needs}
-use borrow.Author.Tests.{ltb-true, ltb-false}
-use Rattle.frames.specs.Codes.{or-no-digit, digit-code}
-use Rattle.frames.specs.DigitLaws.{between-low, between-high, digit-decimal, digit-upper, digit-lower, digit-none}
+use Rattle.lists.specs.Basics.{⊎-elim, _∙_, arith, needs, ltb-true, ltb-false}
+use Rattle.frames.specs.{Codes.{or-no-digit, digit-code}, DigitLaws.{between-low, between-high, digit-decimal, digit-upper, digit-lower, digit-none}}
 use Rattle.frames.proofs.digit.Statement.{statement}
 use Rattle.frames.proofs.digit.Tie as tie
 

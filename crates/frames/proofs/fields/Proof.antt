@@ -1,5 +1,5 @@
 -- `frames::fields` meets its contract: the table tells the length of each kind.
-use mathlib.Core.Path.{_∙_}
+use Rattle.lists.specs.Basics.{_∙_}
 use Rattle.protocol.specs.Frames.{least, least-length}
 use Rattle.frames.specs.TableLaws.{single-line}
 use Rattle.frames.proofs.fields.Statement.{statement}

@@ -1,7 +1,6 @@
 -- `frames::inject` meets its contract: four codes, judged by their sum.
-use borrow.Author.Needs.{needs}
-use Rattle.frames.specs.CodeLaws.{pair-small}
-use Rattle.frames.specs.FieldLaws.{inject-none, inject-fields}
+use Rattle.lists.specs.Basics.{needs}
+use Rattle.frames.specs.{CodeLaws.pair-small, FieldLaws.{inject-none, inject-fields}}
 use Rattle.frames.proofs.inject.Statement.{statement}
 use Rattle.frames.proofs.inject.Tie as tie
 

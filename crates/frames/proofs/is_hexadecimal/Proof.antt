@@ -1,14 +1,8 @@
 -- `frames::is_hexadecimal` meets its contract: the loop has passed only digits, so the answer is that for the rest.
-use mathlib.Core.Path.{_≡_, sym, _∙_}
-use Prim.Native.Nat.{_≤_, _-_}
-use native.Mathlib.Omega.{arith}
-use borrow.Author.Needs.{needs}
-use lib.ListN.{length, drop}
+use Rattle.lists.specs.Basics.{_≡_, sym, _∙_, _≤_, _-_, arith, needs, length, drop}
 use Rattle.lists.specs.Lists.{allb}
-use Rattle.frames.specs.Decode.{is-digit, is-hexadecimal}
-use Rattle.frames.specs.CodeLaws.{digit-true, digit-false}
-use Rattle.frames.specs.KindLaws.{hexadecimal-odd, hexadecimal-even}
-use Rattle.frames.specs.ReadLaws.{all-hit, all-miss, all-end}
+use Rattle.frames.specs.{Decode.{is-digit, is-hexadecimal}, CodeLaws.{digit-true, digit-false}, KindLaws.{hexadecimal-odd, hexadecimal-even}}
+use Rattle.frames.specs.{ReadLaws.{all-hit, all-miss, all-end}}
 use Rattle.frames.proofs.is_hexadecimal.Statement.{statement}
 use Rattle.frames.proofs.is_hexadecimal.Tie as tie
 

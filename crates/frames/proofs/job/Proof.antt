@@ -1,9 +1,6 @@
 -- `frames::job` meets its contract: the digits first, then the length that two bytes tell.
-use mathlib.Core.Path.{sym, _∙_}
-use borrow.Author.Needs.{needs}
-use borrow.Author.Tests.{not-true, not-false}
-use Rattle.frames.specs.Read.{job-as}
-use Rattle.frames.specs.ReadLaws.{job-exact, job-other}
+use Rattle.lists.specs.Basics.{sym, _∙_, needs, not-true, not-false}
+use Rattle.frames.specs.{Read.job-as, ReadLaws.{job-exact, job-other}}
 use Rattle.frames.proofs.job.Statement.{statement}
 use Rattle.frames.proofs.job.Tie as tie
 

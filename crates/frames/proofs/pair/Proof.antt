@@ -1,9 +1,6 @@
 -- `frames::pair` meets its contract: the codes of two characters.
-use mathlib.Core.Path.{sym, _∙_}
-use borrow.Author.Needs.{needs}
-use Rattle.frames.specs.Codes.{digit-code, codes}
-use Rattle.frames.specs.CodeLaws.{code-small}
-use Rattle.frames.specs.DecodeLaws.{getD-pairs}
+use Rattle.lists.specs.Basics.{sym, _∙_, needs}
+use Rattle.frames.specs.{Codes.{digit-code, codes}, CodeLaws.code-small, DecodeLaws.getD-pairs}
 use Rattle.frames.proofs.pair.Statement.{statement}
 use Rattle.frames.proofs.pair.Tie as tie
 

@@ -1,9 +1,7 @@
 -- `frames::read` meets its contract: the kind decides, then the length, then the digits behind the kind.
-use mathlib.Core.Path.{refl, _∙_}
-use borrow.Author.Needs.{needs}
+use Rattle.lists.specs.Basics.{refl, _∙_, needs}
 use Rattle.protocol.specs.Frames.{least, least-length}
-use Rattle.frames.specs.ReadLaws.{frame-short, frame-unknown, frame-job, frame-length, frame-behind}
-use Rattle.frames.specs.TableLaws.{least-small}
+use Rattle.frames.specs.{ReadLaws.{frame-short, frame-unknown, frame-job, frame-length, frame-behind}, TableLaws.least-small}
 use Rattle.frames.proofs.read.Statement.{statement}
 use Rattle.frames.proofs.read.Tie as tie
 

@@ -1,11 +1,7 @@
 -- `frames::single` meets its contract: one code judged, and each kind at its number.
-use native.Mathlib.Omega.{arith}
-use borrow.Author.Needs.{needs}
-use borrow.Author.Tests.{ne-eqb}
+use Rattle.lists.specs.Basics.{arith, needs, ne-eqb}
 use Rattle.protocol.specs.Frames.{parts}
-use Rattle.frames.specs.CodeLaws.{byte-of}
-use Rattle.frames.specs.FieldLaws.{single-none, single-field}
-use Rattle.frames.specs.Read.{read-as}
+use Rattle.frames.specs.{CodeLaws.byte-of, FieldLaws.{single-none, single-field}, Read.read-as}
 use Rattle.frames.proofs.single.Statement.{statement}
 use Rattle.frames.proofs.single.Tie as tie
 

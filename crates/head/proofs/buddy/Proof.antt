@@ -1,5 +1,5 @@
 -- `head::buddy` meets its contract: a cell of the view.
-use borrow.Author.Needs.{needs}
+use Rattle.lists.specs.Basics.{needs}
 use Rattle.head.specs.Head.{job-of}
 use Rattle.head.proofs.buddy.Statement.{statement}
 use Rattle.head.proofs.buddy.Tie as tie

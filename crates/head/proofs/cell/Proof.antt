@@ -1,5 +1,5 @@
 -- `head::cell` meets its contract: 0 at 0, the clamped word elsewhere.
-use borrow.Author.Needs.{needs}
+use Rattle.lists.specs.Basics.{needs}
 use Rattle.head.specs.Cells.{cell-zero, cell-read}
 use Rattle.head.proofs.cell.Statement.{statement}
 use Rattle.head.proofs.cell.Tie as tie

@@ -1,5 +1,5 @@
 -- `head::chares` meets its contract: the clamp is that of the view.
-use borrow.Author.Needs.{needs}
+use Rattle.lists.specs.Basics.{needs}
 use Rattle.head.specs.HeadLaws.{chares-word}
 use Rattle.head.proofs.chares.Statement.{statement}
 use Rattle.head.proofs.chares.Tie as tie

@@ -1,11 +1,6 @@
 -- `head::copy` meets its contract: i words are copied.
-use mathlib.Core.Path.{_≡_, refl}
-use Prim.Native.Nat.{_-_, _≤_}
-use native.Mathlib.Omega.{arith}
-use borrow.Author.Needs.{needs}
-use lib.ListN.{length, length-set, take}
-use Rattle.head.specs.Head.{HEAD}
-use Rattle.head.specs.HeadLaws.{copy-one, copy-all}
+use Rattle.lists.specs.Basics.{_≡_, refl, _-_, _≤_, arith, needs, length, length-set, take}
+use Rattle.head.specs.{Head.HEAD, HeadLaws.{copy-one, copy-all}}
 use Rattle.head.proofs.copy.Statement.{statement}
 use Rattle.head.proofs.copy.Tie as tie
 

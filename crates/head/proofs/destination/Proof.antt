@@ -1,7 +1,5 @@
 -- `head::destination` meets its contract: by what `home` and `buddy` ensure, kind by kind.
-use mathlib.Core.Path.{_∙_}
-use borrow.Author.Tests.{eq-eqb, ne-eqb}
-use borrow.Author.Needs.{needs}
+use Rattle.lists.specs.Basics.{_∙_, eq-eqb, ne-eqb, needs}
 use Rattle.protocol.specs.Packets.{destination}
 use Rattle.head.proofs.destination.Statement.{statement}
 use Rattle.head.proofs.destination.Tie as tie

@@ -1,5 +1,5 @@
 -- `head::first` meets its contract: a cell of the view.
-use borrow.Author.Needs.{needs}
+use Rattle.lists.specs.Basics.{needs}
 use Rattle.head.specs.Head.{job-of}
 use Rattle.head.proofs.first.Statement.{statement}
 use Rattle.head.proofs.first.Tie as tie

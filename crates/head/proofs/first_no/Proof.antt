@@ -1,5 +1,5 @@
 -- `head::first_no` meets its contract: question by question.
-use borrow.Author.Tests.{not-true, not-false}
+use Rattle.lists.specs.Basics.{not-true, not-false}
 use Rattle.lists.specs.Questions.{first-no}
 use Rattle.head.proofs.first_no.Statement.{statement}
 use Rattle.head.proofs.first_no.Tie as tie

@@ -1,6 +1,5 @@
 -- `head::is_chare` meets its contract: the two tests of a range.
-use borrow.Author.Tests.{le-leb, lt-leb}
-use borrow.Author.Needs.{needs}
+use Rattle.lists.specs.Basics.{le-leb, lt-leb, needs}
 use Rattle.protocol.specs.Frames.{between}
 use Rattle.head.proofs.is_chare.Statement.{statement}
 use Rattle.head.proofs.is_chare.Tie as tie

@@ -1,5 +1,5 @@
 -- `head::is_held` meets its contract: a word of the view.
-use borrow.Author.Needs.{needs}
+use Rattle.lists.specs.Basics.{needs}
 use Rattle.head.specs.Head.{held-of}
 use Rattle.head.proofs.is_held.Statement.{statement}
 use Rattle.head.proofs.is_held.Tie as tie

@@ -1,6 +1,5 @@
 -- `head::is_local` meets its contract: by what `home` ensures.
-use borrow.Author.Tests.{eq-eqb, ne-eqb}
-use borrow.Author.Needs.{needs}
+use Rattle.lists.specs.Basics.{eq-eqb, ne-eqb, needs}
 use Rattle.protocol.specs.Sending.{is-local}
 use Rattle.head.proofs.is_local.Statement.{statement}
 use Rattle.head.proofs.is_local.Tie as tie

@@ -1,5 +1,5 @@
 -- `head::is_lost` meets its contract: the second word.
-use borrow.Author.Needs.{needs}
+use Rattle.lists.specs.Basics.{needs}
 use Rattle.head.specs.HeadLaws.{lost-word}
 use Rattle.head.proofs.is_lost.Statement.{statement}
 use Rattle.head.proofs.is_lost.Tie as tie

@@ -1,6 +1,5 @@
 -- `head::is_machine` meets its contract: the two tests of a range.
-use borrow.Author.Tests.{le-leb, lt-leb}
-use borrow.Author.Needs.{needs}
+use Rattle.lists.specs.Basics.{le-leb, lt-leb, needs}
 use Rattle.protocol.specs.Frames.{between}
 use Rattle.head.proofs.is_machine.Statement.{statement}
 use Rattle.head.proofs.is_machine.Tie as tie

@@ -1,5 +1,5 @@
 -- `head::is_sender` meets its contract: by what `chares` ensures.
-use borrow.Author.Needs.{needs}
+use Rattle.lists.specs.Basics.{needs}
 use Rattle.head.proofs.is_sender.Statement.{statement}
 use Rattle.head.proofs.is_sender.Tie as tie
 

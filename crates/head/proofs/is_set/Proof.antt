@@ -1,5 +1,5 @@
 -- `head::is_set` meets its contract: the first word.
-use borrow.Author.Needs.{needs}
+use Rattle.lists.specs.Basics.{needs}
 use Rattle.head.specs.HeadLaws.{set-word}
 use Rattle.head.proofs.is_set.Statement.{statement}
 use Rattle.head.proofs.is_set.Tie as tie

@@ -1,5 +1,5 @@
 -- `head::is_up` meets its contract: the desk, and a machine by its word.
-use borrow.Author.Needs.{needs}
+use Rattle.lists.specs.Basics.{needs}
 use Rattle.head.specs.HeadLaws.{desk-runs, machine-runs}
 use Rattle.head.proofs.is_up.Statement.{statement}
 use Rattle.head.proofs.is_up.Tie as tie

@@ -1,5 +1,5 @@
 -- `head::judge_chare` meets its contract: by what the four tests ensure.
-use borrow.Author.Needs.{needs}
+use Rattle.lists.specs.Basics.{needs}
 use Rattle.head.specs.HeadLaws.{asked}
 use Rattle.head.proofs.judge_chare.Statement.{statement}
 use Rattle.head.proofs.judge_chare.Tie as tie

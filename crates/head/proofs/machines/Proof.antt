@@ -1,5 +1,5 @@
 -- `head::machines` meets its contract: the clamp is that of the view.
-use borrow.Author.Needs.{needs}
+use Rattle.lists.specs.Basics.{needs}
 use Rattle.head.specs.HeadLaws.{machines-word}
 use Rattle.head.proofs.machines.Statement.{statement}
 use Rattle.head.proofs.machines.Tie as tie

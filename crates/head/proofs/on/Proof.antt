@@ -1,5 +1,5 @@
 -- `head::on` meets its contract: by what `home` ensures.
-use borrow.Author.Needs.{needs}
+use Rattle.lists.specs.Basics.{needs}
 use Rattle.protocol.specs.Parts.{on}
 use Rattle.head.proofs.on.Statement.{statement}
 use Rattle.head.proofs.on.Tie as tie

@@ -1,7 +1,5 @@
 -- `head::status` meets its contract: word by word.
-use mathlib.Core.Path.{sym, _∙_}
-use borrow.Author.Tests.{ne-eqb}
-use borrow.Author.Needs.{needs}
+use Rattle.lists.specs.Basics.{sym, _∙_, ne-eqb, needs}
 use Rattle.head.specs.Head.{as-status, status-of}
 use Rattle.head.proofs.status.Statement.{statement}
 use Rattle.head.proofs.status.Tie as tie

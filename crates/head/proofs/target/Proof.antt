@@ -1,5 +1,5 @@
 -- `head::target` meets its contract: a word of the view.
-use borrow.Author.Needs.{needs}
+use Rattle.lists.specs.Basics.{needs}
 use Rattle.head.specs.Head.{target-of}
 use Rattle.head.proofs.target.Statement.{statement}
 use Rattle.head.proofs.target.Tie as tie

@@ -1,5 +1,5 @@
 -- `head::word` meets its contract: a word of the part, or past its end.
-use borrow.Author.Needs.{needs}
+use Rattle.lists.specs.Basics.{needs}
 use Rattle.head.specs.HeadLaws.{word-in, word-end}
 use Rattle.head.proofs.word.Statement.{statement}
 use Rattle.head.proofs.word.Tie as tie

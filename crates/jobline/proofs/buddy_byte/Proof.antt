@@ -1,5 +1,5 @@
 -- `jobline::buddy_byte` meets its contract: the byte at its place.
-use borrow.Author.Needs.{needs}
+use Rattle.lists.specs.Basics.{needs}
 use Rattle.protocol.specs.Job.{buddy-byte}
 use Rattle.jobline.proofs.buddy_byte.Statement.{statement}
 use Rattle.jobline.proofs.buddy_byte.Tie as tie

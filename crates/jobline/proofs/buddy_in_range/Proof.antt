@@ -1,5 +1,5 @@
 -- `jobline::buddy_in_range` meets its contract: test by test.
-use borrow.Author.Needs.{needs}
+use Rattle.lists.specs.Basics.{needs}
 use Rattle.jobline.specs.JobCode.{buddy-high, buddy-itself}
 use Rattle.jobline.proofs.buddy_in_range.Statement.{statement}
 use Rattle.jobline.proofs.buddy_in_range.Tie as tie

@@ -1,6 +1,5 @@
 -- `jobline::buddy_of` meets its contract: branch by branch.
-use native.Mathlib.Omega.{arith}
-use borrow.Author.Needs.{needs}
+use Rattle.lists.specs.Basics.{arith, needs}
 use Rattle.jobline.specs.JobCode.{no-buddy-low, no-buddy-high, named-buddy, unnamed-buddy}
 use Rattle.jobline.proofs.buddy_of.Statement.{statement}
 use Rattle.jobline.proofs.buddy_of.Tie as tie

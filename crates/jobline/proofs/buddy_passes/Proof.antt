@@ -1,6 +1,5 @@
 -- `jobline::buddy_passes` meets its contract: a machine that the job has not passes.
-use mathlib.Core.Path.{_∙_}
-use borrow.Author.Needs.{needs}
+use Rattle.lists.specs.Basics.{_∙_, needs}
 use Rattle.jobline.specs.JobCode.{passes-buddy, asks-buddy}
 use Rattle.jobline.proofs.buddy_passes.Statement.{statement}
 use Rattle.jobline.proofs.buddy_passes.Tie as tie

@@ -1,6 +1,5 @@
 -- `jobline::chare_byte` meets its contract: the byte at its place.
-use mathlib.Core.Path.{_∙_}
-use borrow.Author.Needs.{needs}
+use Rattle.lists.specs.Basics.{_∙_, needs}
 use Rattle.protocol.specs.Job.{chare-byte, machines-of}
 use Rattle.jobline.proofs.chare_byte.Statement.{statement}
 use Rattle.jobline.proofs.chare_byte.Tie as tie

@@ -1,5 +1,5 @@
 -- `jobline::chare_in_range` meets its contract: test by test.
-use borrow.Author.Needs.{needs}
+use Rattle.lists.specs.Basics.{needs}
 use Rattle.jobline.specs.JobCode.{home-low, home-high, port-high, ports-in}
 use Rattle.jobline.proofs.chare_in_range.Statement.{statement}
 use Rattle.jobline.proofs.chare_in_range.Tie as tie

@@ -1,6 +1,5 @@
 -- `jobline::chare_passes` meets its contract: a chare that the job has not passes.
-use mathlib.Core.Path.{_∙_}
-use borrow.Author.Needs.{needs}
+use Rattle.lists.specs.Basics.{_∙_, needs}
 use Rattle.jobline.specs.JobCode.{passes-chare, asks-chare}
 use Rattle.jobline.proofs.chare_passes.Statement.{statement}
 use Rattle.jobline.proofs.chare_passes.Tie as tie

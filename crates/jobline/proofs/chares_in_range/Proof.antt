@@ -1,13 +1,8 @@
 -- `jobline::chares_in_range` meets its contract: those before c pass, so the answer is that for the rest.
-use mathlib.Core.Path.{_≡_, sym, _∙_}
-use Prim.Native.Nat.{_≤_, _-_}
-use native.Mathlib.Omega.{arith}
-use borrow.Author.Needs.{needs}
-use borrow.Author.Tests.{not-true, not-false}
+use Rattle.lists.specs.Basics.{_≡_, sym, _∙_, _≤_, _-_, arith, needs, not-true, not-false}
 use Rattle.frames.specs.Decode.{decoded}
-use Rattle.jobline.specs.JobCode.{each-chare}
+use Rattle.jobline.specs.{JobCode.each-chare, Passes.{chares-in-range, chare-passes}}
 use Rattle.arrays.specs.Loops.{each, each-hit, each-miss, each-end}
-use Rattle.jobline.specs.Passes.{chares-in-range, chare-passes}
 use Rattle.jobline.proofs.chares_in_range.Statement.{statement}
 use Rattle.jobline.proofs.chares_in_range.Tie as tie
 

@@ -1,7 +1,5 @@
 -- `jobline::job_in_range` meets its contract: test by test.
-use mathlib.Core.Path.{sym, _∙_}
-use borrow.Author.Needs.{needs}
-use borrow.Author.Tests.{not-true, not-false}
+use Rattle.lists.specs.Basics.{sym, _∙_, needs, not-true, not-false}
 use Rattle.jobline.specs.JobCode.{machines-low, machines-high, chares-low, chares-high, buddies-out, chares-left}
 use Rattle.jobline.proofs.job_in_range.Statement.{statement}
 use Rattle.jobline.proofs.job_in_range.Tie as tie

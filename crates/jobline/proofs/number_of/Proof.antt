@@ -1,6 +1,5 @@
 -- `jobline::number_of` meets its contract: branch by branch.
-use mathlib.Core.Path.{_∙_}
-use borrow.Author.Needs.{needs}
+use Rattle.lists.specs.Basics.{_∙_, needs}
 use Rattle.jobline.specs.JobCode.{no-number-low, no-number-high, a-number}
 use Rattle.jobline.proofs.number_of.Statement.{statement}
 use Rattle.jobline.proofs.number_of.Tie as tie

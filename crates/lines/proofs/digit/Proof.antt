@@ -1,6 +1,5 @@
 -- `lines::digit` meets its contract: the digits 0 to 9, and the capitals.
-use borrow.Author.Needs.{needs}
-use borrow.Author.Tests.{lt-ltb, le-ltb}
+use Rattle.lists.specs.Basics.{needs, lt-ltb, le-ltb}
 use Rattle.protocol.specs.Lines.{printed-digit}
 use Rattle.lines.proofs.digit.Statement.{statement}
 use Rattle.lines.proofs.digit.Tie as tie

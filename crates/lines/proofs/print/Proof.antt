@@ -1,5 +1,5 @@
 -- `lines::print` meets its contract: each answer, digit by digit.
-use borrow.Author.Needs.{needs}
+use Rattle.lists.specs.Basics.{needs}
 use Rattle.protocol.specs.Lines.{line, hexadecimal, two-decimals}
 use Rattle.lines.proofs.print.Statement.{statement}
 use Rattle.lines.proofs.print.Tie as tie

@@ -1,8 +1,5 @@
-use mathlib.Core.Path.{refl}
+use Rattle.lists.specs.Basics.{refl, length-set, arith, needs}
 use Rattle.memory.specs.Numbers.{given}
-use lib.ListN.{length-set}
-use native.Mathlib.Omega.{arith}
-use borrow.Author.Needs.{needs}
 use Rattle.memory.proofs.give.Statement.{statement}
 use Rattle.memory.proofs.give.Tie as tie
 use Rattle.memory.proofs.give.Reads as reads

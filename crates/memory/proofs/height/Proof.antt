@@ -1,5 +1,5 @@
+use Rattle.lists.specs.Basics.{needs}
 use Rattle.memory.specs.View.{height-at}
-use borrow.Author.Needs.{needs}
 use Rattle.memory.proofs.height.Statement.{statement}
 use Rattle.memory.proofs.height.Tie as tie
 use Rattle.memory.proofs.height.Reads as reads

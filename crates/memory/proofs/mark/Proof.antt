@@ -1,5 +1,5 @@
+use Rattle.lists.specs.Basics.{needs}
 use Rattle.memory.specs.View.{mark-at, no-mark}
-use borrow.Author.Needs.{needs}
 use Rattle.memory.proofs.mark.Statement.{statement}
 use Rattle.memory.proofs.mark.Tie as tie
 use Rattle.memory.proofs.mark.Reads as reads

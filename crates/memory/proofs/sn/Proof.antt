@@ -1,5 +1,5 @@
+use Rattle.lists.specs.Basics.{needs}
 use Rattle.memory.specs.View.{sn-at, no-sn}
-use borrow.Author.Needs.{needs}
 use Rattle.memory.proofs.sn.Statement.{statement}
 use Rattle.memory.proofs.sn.Tie as tie
 use Rattle.memory.proofs.sn.Reads as reads

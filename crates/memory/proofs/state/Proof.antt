@@ -1,5 +1,5 @@
+use Rattle.lists.specs.Basics.{needs}
 use Rattle.memory.specs.View.{state-at}
-use borrow.Author.Needs.{needs}
 use Rattle.memory.proofs.state.Statement.{statement}
 use Rattle.memory.proofs.state.Tie as tie
 use Rattle.memory.proofs.state.Reads as reads

@@ -1,6 +1,5 @@
-use mathlib.Core.Path.{refl}
+use Rattle.lists.specs.Basics.{refl, needs}
 use Rattle.memory.specs.Numbers.{taken}
-use borrow.Author.Needs.{needs}
 use Rattle.memory.proofs.take.Statement.{statement}
 use Rattle.memory.proofs.take.Tie as tie
 use Rattle.memory.proofs.take.Reads as reads

@@ -1,5 +1,5 @@
+use Rattle.lists.specs.Basics.{needs}
 use Rattle.memory.specs.View.{top-at}
-use borrow.Author.Needs.{needs}
 use Rattle.memory.proofs.top.Statement.{statement}
 use Rattle.memory.proofs.top.Tie as tie
 use Rattle.memory.proofs.top.Reads as reads

@@ -1,5 +1,5 @@
+use Rattle.lists.specs.Basics.{needs}
 use Rattle.memory.specs.View.{window-at, no-window}
-use borrow.Author.Needs.{needs}
 use Rattle.memory.proofs.window.Statement.{statement}
 use Rattle.memory.proofs.window.Tie as tie
 use Rattle.memory.proofs.window.Reads as reads

@@ -1,7 +1,5 @@
-use mathlib.Core.Path.{sym, ap, _∙_}
-use borrow.Author.Needs.{needs}
-use Rattle.notelist.specs.Words.{note-at}
-use Rattle.notelist.specs.Notes.{note-of}
+use Rattle.lists.specs.Basics.{sym, ap, _∙_, needs}
+use Rattle.notelist.specs.{Words.note-at, Notes.note-of}
 use Rattle.notelist.proofs.at.Statement.{statement}
 use Rattle.notelist.proofs.at.Tie as tie
 

@@ -1,5 +1,4 @@
-use mathlib.Core.Path.{sym, _∙_}
-use borrow.Author.Needs.{needs}
+use Rattle.lists.specs.Basics.{sym, _∙_, needs}
 use Rattle.notelist.specs.Words.{notes-length}
 use Rattle.notelist.proofs.count.Statement.{statement}
 use Rattle.notelist.proofs.count.Tie as tie

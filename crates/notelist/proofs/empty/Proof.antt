@@ -1,5 +1,4 @@
-use native.Mathlib.Omega.{arith}
-use borrow.Author.Needs.{needs}
+use Rattle.lists.specs.Basics.{arith, needs}
 use Rattle.notelist.specs.Words.{no-words, emptied}
 use Rattle.notelist.proofs.empty.Statement.{statement}
 use Rattle.notelist.proofs.empty.Tie as tie

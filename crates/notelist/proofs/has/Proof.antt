@@ -1,12 +1,6 @@
-use mathlib.Core.Path.{_≡_, refl, sym, _∙_}
-use Prim.Native.Nat.{_-_, _≤_}
-use native.Mathlib.Omega.{arith}
-use borrow.Author.Needs.{needs}
-use lib.ListN.{drop}
+use Rattle.lists.specs.Basics.{_≡_, refl, sym, _∙_, _-_, _≤_, arith, needs, drop}
 use Rattle.protocol.specs.Packets.{is-noted}
-use Rattle.notelist.specs.Same.{same-word, other-name, other-tn, far-receiver, far-sender}
-use Rattle.notelist.specs.Words.{noted-there, noted-next, noted-nowhere}
-use Rattle.notelist.specs.Notes.{notes}
+use Rattle.notelist.specs.{Same.{same-word, other-name, other-tn, far-receiver, far-sender}, Words.{noted-there, noted-next, noted-nowhere}, Notes.notes}
 use Rattle.notelist.proofs.has.Statement.{statement}
 use Rattle.notelist.proofs.has.Tie as tie
 

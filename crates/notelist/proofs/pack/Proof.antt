@@ -1,4 +1,4 @@
-use borrow.Author.Needs.{needs}
+use Rattle.lists.specs.Basics.{needs}
 use Rattle.notelist.specs.Words.{note-says}
 use Rattle.notelist.proofs.pack.Statement.{statement}
 use Rattle.notelist.proofs.pack.Tie as tie

@@ -1,4 +1,4 @@
-use borrow.Author.Needs.{needs}
+use Rattle.lists.specs.Basics.{needs}
 use Rattle.notelist.specs.Words.{pushed}
 use Rattle.notelist.proofs.push.Statement.{statement}
 use Rattle.notelist.proofs.push.Tie as tie

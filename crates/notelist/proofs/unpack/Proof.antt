@@ -1,4 +1,4 @@
-use borrow.Author.Needs.{needs}
+use Rattle.lists.specs.Basics.{needs}
 use Rattle.notelist.specs.Notes.{note-of, as-note}
 use Rattle.notelist.proofs.unpack.Statement.{statement}
 use Rattle.notelist.proofs.unpack.Tie as tie

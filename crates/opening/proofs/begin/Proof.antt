@@ -1,6 +1,5 @@
 -- `opening::begin` meets its contract: zeros, the head over them, the chares' states.
-use mathlib.Core.Path.{_∙_}
-use borrow.Author.Needs.{needs}
+use Rattle.lists.specs.Basics.{_∙_, needs}
 use Rattle.store.specs.ViewLaws.{head-length}
 use Rattle.opening.specs.Begun.{chares-few, begins}
 use Rattle.opening.proofs.begin.Statement.{statement}

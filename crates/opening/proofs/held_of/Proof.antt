@@ -1,5 +1,5 @@
 -- `opening::held_of` meets its contract: below, above or among the machines.
-use borrow.Author.Needs.{needs}
+use Rattle.lists.specs.Basics.{needs}
 use Rattle.opening.specs.Words.{held-low, held-high, held-in}
 use Rattle.opening.proofs.held_of.Statement.{statement}
 use Rattle.opening.proofs.held_of.Tie as tie

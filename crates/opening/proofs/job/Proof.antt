@@ -1,7 +1,5 @@
 -- `opening::job` meets its contract: refused at the first "no", or begun.
-use mathlib.Core.Path.{sym, _∙_}
-use borrow.Author.Needs.{needs}
-use borrow.Author.Tests.{not-true, not-false}
+use Rattle.lists.specs.Basics.{sym, _∙_, needs, not-true, not-false}
 use Rattle.opening.specs.Begun.{refuse-set, refuse-range, refuse-lost, accepts}
 use Rattle.opening.proofs.job.Statement.{statement}
 use Rattle.opening.proofs.job.Tie as tie

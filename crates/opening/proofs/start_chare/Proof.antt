@@ -1,5 +1,5 @@
 -- `opening::start_chare` meets its contract: the memory, then its copy.
-use borrow.Author.Needs.{needs}
+use Rattle.lists.specs.Basics.{needs}
 use Rattle.opening.specs.States.{both-started}
 use Rattle.opening.proofs.start_chare.Statement.{statement}
 use Rattle.opening.proofs.start_chare.Tie as tie

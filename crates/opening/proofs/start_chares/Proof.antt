@@ -1,11 +1,6 @@
 -- `opening::start_chares` meets its contract: those before c have started.
-use mathlib.Core.Path.{_≡_, ap, _∙_}
-use Prim.Native.Nat.{_+_, _-_, _≤_}
-use native.Mathlib.Omega.{arith}
-use borrow.Author.Needs.{needs}
-use lib.ListN.{length}
-use Rattle.store.specs.Places.{STORE}
-use Rattle.store.specs.View.{view}
+use Rattle.lists.specs.Basics.{_≡_, ap, _∙_, _+_, _-_, _≤_, arith, needs, length}
+use Rattle.store.specs.{Places.STORE, View.view}
 use Rattle.opening.specs.States.{started, below, below-start, below-more, below-end}
 use Rattle.opening.proofs.start_chares.Statement.{statement}
 use Rattle.opening.proofs.start_chares.Tie as tie

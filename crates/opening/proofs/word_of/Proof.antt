@@ -1,6 +1,5 @@
 -- `opening::word_of` meets its contract: by the part.
-use mathlib.Core.Path.{_∙_}
-use borrow.Author.Needs.{needs}
+use Rattle.lists.specs.Basics.{_∙_, needs}
 use Rattle.opening.specs.Words.{word-buddy, word-held, word-number}
 use Rattle.opening.proofs.word_of.Statement.{statement}
 use Rattle.opening.proofs.word_of.Tie as tie

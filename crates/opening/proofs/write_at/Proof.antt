@@ -1,5 +1,5 @@
 -- `opening::write_at` meets its contract: the part that it lends is written.
-use borrow.Author.Needs.{needs}
+use Rattle.lists.specs.Basics.{needs}
 use Rattle.opening.specs.Words.{part-written}
 use Rattle.opening.proofs.write_at.Statement.{statement}
 use Rattle.opening.proofs.write_at.Tie as tie

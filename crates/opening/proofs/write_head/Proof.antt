@@ -1,6 +1,5 @@
 -- `opening::write_head` meets its contract: the numbers, then five parts.
-use mathlib.Core.Path.{_∙_}
-use borrow.Author.Needs.{needs}
+use Rattle.lists.specs.Basics.{_∙_, needs}
 use Rattle.opening.specs.Words.{head-written}
 use Rattle.opening.proofs.write_head.Statement.{statement}
 use Rattle.opening.proofs.write_head.Tie as tie

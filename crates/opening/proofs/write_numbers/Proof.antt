@@ -1,7 +1,5 @@
 -- `opening::write_numbers` meets its contract: three words over zeros.
-use native.Mathlib.Omega.{arith}
-use borrow.Author.Needs.{needs}
-use lib.ListN.{length-set}
+use Rattle.lists.specs.Basics.{arith, needs, length-set}
 use Rattle.opening.specs.Words.{numbers-written}
 use Rattle.opening.proofs.write_numbers.Statement.{statement}
 use Rattle.opening.proofs.write_numbers.Tie as tie

@@ -1,9 +1,5 @@
 -- `opening::write_part` meets its contract: k words are written.
-use mathlib.Core.Path.{_≡_, refl}
-use Prim.Native.Nat.{_-_, _≤_}
-use native.Mathlib.Omega.{arith}
-use borrow.Author.Needs.{needs}
-use lib.ListN.{length, length-set}
+use Rattle.lists.specs.Basics.{_≡_, refl, _-_, _≤_, arith, needs, length, length-set}
 use Rattle.frames.specs.Decode.{decoded}
 use Rattle.head.specs.Cells.{Filled, fill-more, fill-end}
 use Rattle.opening.specs.Words.{word-of, fill-none}

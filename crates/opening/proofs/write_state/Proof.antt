@@ -1,5 +1,5 @@
 -- `opening::write_state` meets its contract: one word.
-use borrow.Author.Needs.{needs}
+use Rattle.lists.specs.Basics.{needs}
 use Rattle.opening.specs.States.{state-set}
 use Rattle.opening.proofs.write_state.Statement.{statement}
 use Rattle.opening.proofs.write_state.Tie as tie

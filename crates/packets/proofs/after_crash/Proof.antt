@@ -1,5 +1,5 @@
 -- `packets::after_crash` meets its contract: the packets that stay are those that survive.
-use borrow.Author.Needs.{needs}
+use Rattle.lists.specs.Basics.{needs}
 use Rattle.packets.specs.Stays.{stays}
 use Rattle.packets.proofs.after_crash.Statement.{statement}
 use Rattle.packets.proofs.after_crash.Tie as tie

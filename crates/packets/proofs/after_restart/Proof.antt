@@ -1,5 +1,5 @@
 -- `packets::after_restart` meets its contract: the packets that stay are those that go elsewhere.
-use borrow.Author.Needs.{needs}
+use Rattle.lists.specs.Basics.{needs}
 use Rattle.packets.specs.Stays.{stays}
 use Rattle.packets.proofs.after_restart.Statement.{statement}
 use Rattle.packets.proofs.after_restart.Tie as tie

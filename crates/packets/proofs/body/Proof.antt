@@ -1,8 +1,6 @@
 -- `packets::body` meets its contract: variant by variant.
-use mathlib.Core.Path.{refl}
-use borrow.Author.Needs.{needs}
-use Rattle.packets.specs.Words.{granted, carried, fit-content}
-use Rattle.packets.specs.Packing.{packs}
+use Rattle.lists.specs.Basics.{refl, needs}
+use Rattle.packets.specs.{Words.{granted, carried, fit-content}, Packing.packs}
 use Rattle.packets.proofs.body.Statement.{statement}
 use Rattle.packets.proofs.body.Tie as tie
 

@@ -1,5 +1,5 @@
 -- `packets::content` meets its contract: variant by variant.
-use borrow.Author.Tests.{ne-eqb}
+use Rattle.lists.specs.Basics.{ne-eqb}
 use Rattle.packets.specs.Words.{granted, carried, content-of}
 use Rattle.packets.proofs.content.Statement.{statement}
 use Rattle.packets.proofs.content.Tie as tie

@@ -1,5 +1,5 @@
 -- `packets::count` meets its contract: a packet a word.
-use borrow.Author.Needs.{needs}
+use Rattle.lists.specs.Basics.{needs}
 use Rattle.packets.specs.View.{counted}
 use Rattle.packets.proofs.count.Statement.{statement}
 use Rattle.packets.proofs.count.Tie as tie

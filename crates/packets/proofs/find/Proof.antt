@@ -1,14 +1,8 @@
 -- `packets::find` meets its contract: i words have another name.
-use mathlib.Core.Path.{_≡_, sym, ap, _∙_}
-use Prim.Native.Nat.{_+_, _-_, _≤_}
-use native.Mathlib.Omega.{arith}
-use borrow.Author.Needs.{needs}
-use lib.ListN.{drop}
+use Rattle.lists.specs.Basics.{_≡_, sym, ap, _∙_, _+_, _-_, _≤_, arith, needs, drop}
 use Rattle.arrays.specs.Place.{place, place-start}
 use Rattle.words.specs.Rows.{row, row-at, seek-hit, seek-miss, seek-end}
-use Rattle.packets.specs.Words.{unpacked}
-use Rattle.packets.specs.View.{sought-at, sought-none}
-use Rattle.packets.specs.Names.{has-name, by-name, nobody}
+use Rattle.packets.specs.{Words.unpacked, View.{sought-at, sought-none}, Names.{has-name, by-name, nobody}}
 use Rattle.packets.proofs.find.Statement.{statement}
 use Rattle.packets.proofs.find.Tie as tie
 

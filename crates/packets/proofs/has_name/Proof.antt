@@ -1,5 +1,5 @@
 -- `packets::has_name` meets its contract: the name in one number, then the kind.
-use borrow.Author.Needs.{needs}
+use Rattle.lists.specs.Basics.{needs}
 use Rattle.packets.specs.Names.{other-name, same-name}
 use Rattle.packets.proofs.has_name.Statement.{statement}
 use Rattle.packets.proofs.has_name.Tie as tie

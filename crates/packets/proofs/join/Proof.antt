@@ -1,5 +1,5 @@
 -- `packets::join` meets its contract: a word more.
-use borrow.Author.Needs.{needs}
+use Rattle.lists.specs.Basics.{needs}
 use Rattle.packets.specs.View.{joined}
 use Rattle.packets.proofs.join.Statement.{statement}
 use Rattle.packets.proofs.join.Tie as tie

@@ -1,6 +1,5 @@
 -- `packets::kind` meets its contract: a kind that no packet has counts as ACK.
-use mathlib.Core.Path.{refl}
-use borrow.Author.Needs.{needs}
+use Rattle.lists.specs.Basics.{refl, needs}
 use Rattle.packets.specs.Names.{kind-zero, kind-past, kind-shown}
 use Rattle.packets.proofs.kind.Statement.{statement}
 use Rattle.packets.proofs.kind.Tie as tie

@@ -1,5 +1,5 @@
 -- `packets::leave` meets its contract: a word less.
-use borrow.Author.Needs.{needs}
+use Rattle.lists.specs.Basics.{needs}
 use Rattle.packets.specs.View.{left}
 use Rattle.packets.proofs.leave.Statement.{statement}
 use Rattle.packets.proofs.leave.Tie as tie

@@ -1,5 +1,5 @@
 -- `packets::made` meets its contract: field by field.
-use mathlib.Core.Path.{refl}
+use Rattle.lists.specs.Basics.{refl}
 use Rattle.packets.specs.Packing.{bare}
 use Rattle.packets.proofs.made.Statement.{statement}
 use Rattle.packets.proofs.made.Tie as tie

@@ -1,5 +1,5 @@
 -- `packets::pack` meets its contract: the fields of the content, and the name.
-use borrow.Author.Needs.{needs}
+use Rattle.lists.specs.Basics.{needs}
 use Rattle.packets.specs.Packing.{packet-says}
 use Rattle.packets.proofs.pack.Statement.{statement}
 use Rattle.packets.proofs.pack.Tie as tie

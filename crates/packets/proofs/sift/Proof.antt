@@ -1,15 +1,9 @@
 -- `packets::sift` meets its contract: i words are read, m of them are written back.
-use mathlib.Core.Path.{_≡_, refl, sym, _∙_}
-use Prim.Native.Nat.{_-_, _≤_, _<_}
-use native.Mathlib.Omega.{arith}
-use borrow.Author.Needs.{needs}
-use lib.ListN.{length, length-set}
+use Rattle.lists.specs.Basics.{_≡_, refl, sym, _∙_, _-_, _≤_, _<_, arith, needs, length, length-set}
 use Rattle.lists.specs.Lists.{keep}
-use Rattle.words.specs.Rows.{row}
-use Rattle.words.specs.Sift.{sifted, sift-length, sift-keep, sift-skip, sift-end}
+use Rattle.words.specs.{Rows.row, Sift.{sifted, sift-length, sift-keep, sift-skip, sift-end}}
 use Rattle.head.specs.Head.{job-of}
-use Rattle.packets.specs.Words.{unpacked, packets}
-use Rattle.packets.specs.Stays.{stays, keep-none, keep-start, keep-end}
+use Rattle.packets.specs.{Words.{unpacked, packets}, Stays.{stays, keep-none, keep-start, keep-end}}
 use Rattle.packets.proofs.sift.Statement.{statement}
 use Rattle.packets.proofs.sift.Tie as tie
 

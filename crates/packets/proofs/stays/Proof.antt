@@ -1,7 +1,5 @@
 -- `packets::stays` meets its contract: what each branch finds.
-use mathlib.Core.Path.{sym, _∙_}
-use borrow.Author.Tests.{not-true, not-false}
-use borrow.Author.Needs.{needs}
+use Rattle.lists.specs.Basics.{sym, _∙_, not-true, not-false, needs}
 use Rattle.packets.specs.Stays.{gone-to, no-crash, from-elsewhere, grant-gone, note-gone}
 use Rattle.packets.proofs.stays.Statement.{statement}
 use Rattle.packets.proofs.stays.Tie as tie

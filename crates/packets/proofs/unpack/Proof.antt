@@ -1,5 +1,5 @@
 -- `packets::unpack` meets its contract: by what `item::unpack` and `content` ensure.
-use borrow.Author.Needs.{needs}
+use Rattle.lists.specs.Basics.{needs}
 use Rattle.packets.specs.Words.{as-packet, unpacked}
 use Rattle.packets.proofs.unpack.Statement.{statement}
 use Rattle.packets.proofs.unpack.Tie as tie

@@ -1,10 +1,7 @@
 -- `change` sets the status, then memories and targets, then the wire.
+use Rattle.lists.specs.Basics.{_+_, length-set, arith, needs}
 use Rattle.head.specs.Head.{STATUS}
-use Prim.Native.Nat.{_+_}
-use lib.ListN.{length-set}
 use Rattle.restart.specs.Whole.{change-is}
-use native.Mathlib.Omega.{arith}
-use borrow.Author.Needs.{needs}
 use Rattle.restart.proofs.change.Statement.{statement}
 use Rattle.restart.proofs.change.Tie as tie
 

@@ -1,7 +1,7 @@
 -- `is_down` meets its contract: status by status.
+use Rattle.lists.specs.Basics.{needs}
 use Rattle.store.specs.View.{view}
 use Rattle.protocol.specs.Parts.{is-down}
-use borrow.Author.Needs.{needs}
 use Rattle.restart.proofs.is_down.Statement.{statement}
 use Rattle.restart.proofs.is_down.Tie as tie
 

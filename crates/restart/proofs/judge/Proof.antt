@@ -1,6 +1,6 @@
 -- `judge` puts four questions.
+use Rattle.lists.specs.Basics.{needs}
 use Rattle.restart.specs.Judged.{asked-is}
-use borrow.Author.Needs.{needs}
 use Rattle.restart.proofs.judge.Statement.{statement}
 use Rattle.restart.proofs.judge.Tie as tie
 

@@ -1,8 +1,6 @@
 -- `restart` refuses before the store is changed, or changes it.
+use Rattle.lists.specs.Basics.{not-true, not-false, arith, needs}
 use Rattle.restart.specs.Whole.{refuse-first, machine, refuse-tables, refuse-wire, accept}
-use borrow.Author.Tests.{not-true, not-false}
-use native.Mathlib.Omega.{arith}
-use borrow.Author.Needs.{needs}
 use Rattle.restart.proofs.restart.Statement.{statement}
 use Rattle.restart.proofs.restart.Tie as tie
 

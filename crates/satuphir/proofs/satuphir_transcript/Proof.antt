@@ -1,5 +1,5 @@
 -- `satuphir_transcript` counts what `whole` writes.
-use borrow.Author.Needs.{needs}
+use Rattle.lists.specs.Basics.{needs}
 use Rattle.satuphir.specs.Entry.{entered, not-entered}
 use Rattle.satuphir.proofs.satuphir_transcript.Statement.{statement}
 use Rattle.satuphir.proofs.satuphir_transcript.Tie as tie

@@ -1,6 +1,5 @@
+use Rattle.lists.specs.Basics.{arith, needs}
 use Rattle.sends.specs.Inject.{inject-refused, index, hops-in, not-sent, is-sent}
-use native.Mathlib.Omega.{arith}
-use borrow.Author.Needs.{needs}
 use Rattle.sends.proofs.inject.Statement.{statement}
 use Rattle.sends.proofs.inject.Tie as tie
 

@@ -1,6 +1,5 @@
+use Rattle.lists.specs.Basics.{_∙_, needs}
 use Rattle.sends.specs.Inject.{desk-asked}
-use mathlib.Core.Path.{_∙_}
-use borrow.Author.Needs.{needs}
 use Rattle.sends.proofs.judge_inject.Statement.{statement}
 use Rattle.sends.proofs.judge_inject.Tie as tie
 

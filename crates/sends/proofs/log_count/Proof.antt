@@ -1,7 +1,6 @@
+use Rattle.lists.specs.Basics.{arith, needs}
 use Rattle.sends.specs.Reading.{log-top}
 use Rattle.memory.specs.View.{log-part}
-use native.Mathlib.Omega.{arith}
-use borrow.Author.Needs.{needs}
 use Rattle.sends.proofs.log_count.Statement.{statement}
 use Rattle.sends.proofs.log_count.Tie as tie
 

@@ -1,6 +1,6 @@
+use Rattle.lists.specs.Basics.{needs}
 use Rattle.sends.specs.Reading.{span}
 use Rattle.store.specs.ViewLaws.{live-at}
-use borrow.Author.Needs.{needs}
 use Rattle.sends.proofs.logged.Statement.{statement}
 use Rattle.sends.proofs.logged.Tie as tie
 

@@ -1,9 +1,8 @@
+use Rattle.lists.specs.Basics.{sym, _∙_, needs}
 use Rattle.sends.specs.WorkFrame.{none-next}
 use Rattle.tickets.specs.Table.{found-entry}
 use Rattle.memory.specs.View.{table-part}
 use Rattle.protocol.specs.Working.{next-entry}
-use mathlib.Core.Path.{sym, _∙_}
-use borrow.Author.Needs.{needs}
 use Rattle.sends.proofs.next_entry.Statement.{statement}
 use Rattle.sends.proofs.next_entry.Tie as tie
 

@@ -1,7 +1,5 @@
-use Rattle.sends.specs.Reading.{span}
-use Rattle.sends.specs.Stored.{sent-at}
-use native.Mathlib.Omega.{arith}
-use borrow.Author.Needs.{needs}
+use Rattle.lists.specs.Basics.{arith, needs}
+use Rattle.sends.specs.{Reading.span, Stored.sent-at}
 use Rattle.sends.proofs.send.Statement.{statement}
 use Rattle.sends.proofs.send.Tie as tie
 

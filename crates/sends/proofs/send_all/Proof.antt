@@ -1,10 +1,7 @@
-use Rattle.sends.specs.Made.{none-made, no-hops, no-ports, only-first, only-second, both-ports}
-use Rattle.sends.specs.Reading.{job-at}
+use Rattle.lists.specs.Basics.{_-_, sym, _∙_, needs}
+use Rattle.sends.specs.{Made.{none-made, no-hops, no-ports, only-first, only-second, both-ports}, Reading.job-at}
 use Rattle.store.specs.View.{view}
 use Rattle.head.specs.Head.{job-of}
-use Prim.Native.Nat.{_-_}
-use mathlib.Core.Path.{sym, _∙_}
-use borrow.Author.Needs.{needs}
 use Rattle.sends.proofs.send_all.Statement.{statement}
 use Rattle.sends.proofs.send_all.Tie as tie
 

@@ -1,5 +1,5 @@
+use Rattle.lists.specs.Basics.{needs}
 use Rattle.sends.specs.Made.{one-refused, one-made}
-use borrow.Author.Needs.{needs}
 use Rattle.sends.proofs.send_one.Statement.{statement}
 use Rattle.sends.proofs.send_one.Tie as tie
 

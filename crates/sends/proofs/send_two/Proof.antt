@@ -1,5 +1,5 @@
+use Rattle.lists.specs.Basics.{needs}
 use Rattle.sends.specs.Made.{two-refused, two-made}
-use borrow.Author.Needs.{needs}
 use Rattle.sends.proofs.send_two.Statement.{statement}
 use Rattle.sends.proofs.send_two.Tie as tie
 

@@ -1,7 +1,6 @@
+use Rattle.lists.specs.Basics.{arith, needs}
 use Rattle.sends.specs.Reading.{packets-top}
 use Rattle.store.specs.ViewLaws.{wire-at}
-use native.Mathlib.Omega.{arith}
-use borrow.Author.Needs.{needs}
 use Rattle.sends.proofs.waiting.Statement.{statement}
 use Rattle.sends.proofs.waiting.Tie as tie
 

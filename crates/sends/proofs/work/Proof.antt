@@ -1,9 +1,6 @@
-use Rattle.sends.specs.Reading.{span}
-use Rattle.sends.specs.WorkFrame.{frame-refused, index, next-fits, nothing-next, next-worked}
+use Rattle.lists.specs.Basics.{arith, sym, ap, _∙_, needs}
+use Rattle.sends.specs.{Reading.span, WorkFrame.{frame-refused, index, next-fits, nothing-next, next-worked}}
 use Rattle.tickets.specs.Table.{found-entry}
-use native.Mathlib.Omega.{arith}
-use mathlib.Core.Path.{sym, ap, _∙_}
-use borrow.Author.Needs.{needs}
 use Rattle.sends.proofs.work.Statement.{statement}
 use Rattle.sends.proofs.work.Tie as tie
 

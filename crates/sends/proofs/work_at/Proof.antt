@@ -1,8 +1,5 @@
-use Rattle.sends.specs.Reading.{span}
-use Rattle.sends.specs.WorkAt.{not-worked, all-sent, undone}
-use native.Mathlib.Omega.{arith}
-use mathlib.Core.Path.{refl}
-use borrow.Author.Needs.{needs}
+use Rattle.lists.specs.Basics.{arith, refl, needs}
+use Rattle.sends.specs.{Reading.span, WorkAt.{not-worked, all-sent, undone}}
 use Rattle.sends.proofs.work_at.Statement.{statement}
 use Rattle.sends.proofs.work_at.Tie as tie
 

@@ -1,6 +1,5 @@
 -- `settle::drop_target` meets its contract: on machine p, or not.
-use mathlib.Core.Path.{sym, _∙_}
-use borrow.Author.Needs.{needs}
+use Rattle.lists.specs.Basics.{sym, _∙_, needs}
 use Rattle.settle.specs.Targets.{drop-on, drop-off}
 use Rattle.settle.proofs.drop_target.Statement.{statement}
 use Rattle.settle.proofs.drop_target.Tie as tie

@@ -1,11 +1,6 @@
 -- `settle::drop_targets` meets its contract: the targets of the chares before c are dropped.
-use mathlib.Core.Path.{_≡_, _∙_, ap}
-use Prim.Native.Nat.{_-_, _≤_}
-use native.Mathlib.Omega.{arith}
-use borrow.Author.Needs.{needs}
-use lib.ListN.{length}
-use Rattle.store.specs.Places.{STORE}
-use Rattle.store.specs.View.{view}
+use Rattle.lists.specs.Basics.{_≡_, _∙_, ap, _-_, _≤_, arith, needs, length}
+use Rattle.store.specs.{Places.STORE, View.view}
 use Rattle.settle.specs.Targets.{dropped, desk, below, below-start, below-more, below-end}
 use Rattle.settle.proofs.drop_targets.Statement.{statement}
 use Rattle.settle.proofs.drop_targets.Tie as tie

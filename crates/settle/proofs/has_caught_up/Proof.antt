@@ -1,6 +1,5 @@
 -- `settle::has_caught_up` meets its contract: below its target, or there.
-use mathlib.Core.Path.{_∙_}
-use borrow.Author.Needs.{needs}
+use Rattle.lists.specs.Basics.{_∙_, needs}
 use Rattle.settle.specs.Done.{behind, there}
 use Rattle.settle.proofs.has_caught_up.Statement.{statement}
 use Rattle.settle.proofs.has_caught_up.Tie as tie

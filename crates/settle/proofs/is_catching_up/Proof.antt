@@ -1,5 +1,5 @@
 -- `settle::is_catching_up` meets its contract: status by status.
-use borrow.Author.Needs.{needs}
+use Rattle.lists.specs.Basics.{needs}
 use Rattle.protocol.specs.Parts.{is-catching-up}
 use Rattle.store.specs.View.{view}
 use Rattle.settle.proofs.is_catching_up.Statement.{statement}

@@ -1,9 +1,5 @@
 -- `settle::is_done` meets its contract: those before c pass, so the answer is that for the rest.
-use mathlib.Core.Path.{_≡_, sym, _∙_}
-use Prim.Native.Nat.{_-_, _≤_}
-use native.Mathlib.Omega.{arith}
-use borrow.Author.Needs.{needs}
-use borrow.Author.Tests.{not-true, not-false}
+use Rattle.lists.specs.Basics.{_≡_, sym, _∙_, _-_, _≤_, arith, needs, not-true, not-false}
 use Rattle.protocol.specs.Restart.{is-done}
 use Rattle.arrays.specs.Loops.{each, each-hit, each-miss, each-end}
 use Rattle.store.specs.View.{view}

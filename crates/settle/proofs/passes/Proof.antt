@@ -1,7 +1,5 @@
 -- `settle::passes` meets its contract: a chare elsewhere passes.
-use mathlib.Core.Path.{sym, _∙_}
-use borrow.Author.Needs.{needs}
-use borrow.Author.Tests.{not-true, not-false}
+use Rattle.lists.specs.Basics.{sym, _∙_, needs, not-true, not-false}
 use Rattle.settle.specs.Done.{passes-off, passes-on}
 use Rattle.settle.proofs.passes.Statement.{statement}
 use Rattle.settle.proofs.passes.Tie as tie

@@ -1,11 +1,6 @@
 -- `settle::settle` meets its contract: the machines from p on are still to settle.
-use mathlib.Core.Path.{_≡_}
-use Prim.Native.Nat.{_-_, _≤_}
-use native.Mathlib.Omega.{arith}
-use borrow.Author.Needs.{needs}
-use lib.ListN.{length}
-use Rattle.store.specs.Places.{STORE}
-use Rattle.store.specs.View.{view}
+use Rattle.lists.specs.Basics.{_≡_, _-_, _≤_, arith, needs, length}
+use Rattle.store.specs.{Places.STORE, View.view}
 use Rattle.settle.specs.Settled.{Going, going-start, going-more, going-end}
 use Rattle.settle.proofs.settle.Statement.{statement}
 use Rattle.settle.proofs.settle.Tie as tie

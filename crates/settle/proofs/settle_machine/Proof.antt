@@ -1,9 +1,5 @@
 -- `settle::settle_machine` meets its contract: done, or not.
-use mathlib.Core.Path.{sym, _∙_}
-use Prim.Native.Nat.{_+_}
-use native.Mathlib.Omega.{arith}
-use borrow.Author.Needs.{needs}
-use lib.ListN.{length-set}
+use Rattle.lists.specs.Basics.{sym, _∙_, _+_, arith, needs, length-set}
 use Rattle.head.specs.Head.{STATUS}
 use Rattle.settle.specs.Settled.{machine-stays, machine-settles}
 use Rattle.settle.proofs.settle_machine.Statement.{statement}

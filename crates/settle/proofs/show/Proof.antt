@@ -1,5 +1,5 @@
 -- `settle::show` meets its contract: refused by the first "no", or what the memory says.
-use borrow.Author.Needs.{needs}
+use Rattle.lists.specs.Basics.{needs}
 use Rattle.settle.specs.Shown.{show-refused, chare-in, show-done}
 use Rattle.settle.proofs.show.Statement.{statement}
 use Rattle.settle.proofs.show.Tie as tie

@@ -1,12 +1,6 @@
 -- `answer` is safe and ends: each turn takes at least a byte of the piece, or it is the last.
-use mathlib.Core.List.{List}
-use mathlib.Core.Path.{_≡_, sym, _∙_}
-use Prim.Native.Nat.{ℕ, _+_, _-_, _≤_}
-use native.Mathlib.Omega.{arith}
-use lib.ListN.{length, take, drop, length-take, length-drop}
-use lib.Seq.{length-take-le}
+use Rattle.lists.specs.Basics.{List, _≡_, sym, _∙_, ℕ, _+_, _-_, _≤_, arith, length, take, drop, length-take, length-drop, length-take-le, needs}
 use Rattle.transcript.specs.Ends.{fed-fits, fed-taken}
-use borrow.Author.Needs.{needs}
 use Rattle.sitting.proofs.answer.Statement.{statement}
 use Rattle.sitting.proofs.answer.Tie as tie
 

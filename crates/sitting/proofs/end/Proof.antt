@@ -1,11 +1,6 @@
 -- `end` is safe.
-use mathlib.Core.Path.{sym}
-use Prim.Native.Nat.{_≤_}
-use native.Mathlib.Omega.{arith}
-use lib.ListN.{length}
-use lib.Seq.{length-take-le}
+use Rattle.lists.specs.Basics.{sym, _≤_, arith, length, length-take-le, needs}
 use Rattle.transcript.specs.Ends.{ended-fits}
-use borrow.Author.Needs.{needs}
 use Rattle.sitting.proofs.end.Statement.{statement}
 use Rattle.sitting.proofs.end.Tie as tie
 

@@ -1,7 +1,5 @@
 -- `main` is safe and ends: the measure is the number of turns that are left.
-use mathlib.Core.Path.{_≡_}
-use lib.ListN.{length}
-use borrow.Author.Needs.{needs}
+use Rattle.lists.specs.Basics.{_≡_, length, needs}
 use Rattle.sitting.proofs.main.Statement.{statement}
 use Rattle.sitting.proofs.main.Tie as tie
 

@@ -1,11 +1,6 @@
 -- `list` is safe.
-use mathlib.Core.Path.{sym}
-use Prim.Native.Nat.{_≤_}
-use native.Mathlib.Omega.{arith}
-use lib.ListN.{length}
-use lib.Seq.{length-take-le}
+use Rattle.lists.specs.Basics.{sym, _≤_, arith, length, length-take-le, needs}
 use Rattle.transcript.specs.Ends.{whole-fits}
-use borrow.Author.Needs.{needs}
 use Rattle.sittings.proofs.list.Statement.{statement}
 use Rattle.sittings.proofs.list.Tie as tie
 

@@ -1,6 +1,5 @@
 -- `sittings::main` is safe and ends: each turn takes one argument.
-use Prim.Native.Nat.{_-_}
-use borrow.Author.Needs.{needs}
+use Rattle.lists.specs.Basics.{_-_, needs}
 use Rattle.sittings.proofs.main.Statement.{statement}
 use Rattle.sittings.proofs.main.Tie as tie
 

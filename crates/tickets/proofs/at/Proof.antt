@@ -1,7 +1,5 @@
-use mathlib.Core.Path.{sym, ap, _∙_}
-use borrow.Author.Needs.{needs}
-use Rattle.tickets.specs.Fits.{entry-at}
-use Rattle.tickets.specs.Table.{entry-of}
+use Rattle.lists.specs.Basics.{sym, ap, _∙_, needs}
+use Rattle.tickets.specs.{Fits.entry-at, Table.entry-of}
 use Rattle.tickets.proofs.at.Statement.{statement}
 use Rattle.tickets.proofs.at.Tie as tie
 

@@ -1,5 +1,4 @@
-use mathlib.Core.Path.{_∙_}
-use borrow.Author.Needs.{needs}
+use Rattle.lists.specs.Basics.{_∙_, needs}
 use Rattle.tickets.specs.Fits.{count-is}
 use Rattle.tickets.proofs.count.Statement.{statement}
 use Rattle.tickets.proofs.count.Tie as tie

@@ -1,6 +1,6 @@
+use Rattle.lists.specs.Basics.{needs}
 use Rattle.tickets.specs.Table.{fitted}
 use Rattle.protocol.specs.Tickets.{unreceived}
-use borrow.Author.Needs.{needs}
 use Rattle.tickets.proofs.enter.Statement.{statement}
 use Rattle.tickets.proofs.enter.Tie as tie
 

@@ -1,5 +1,4 @@
-use native.Mathlib.Omega.{arith}
-use borrow.Author.Needs.{needs}
+use Rattle.lists.specs.Basics.{arith, needs}
 use Rattle.tickets.specs.Changes.{enter-double, enter-full, enter-room}
 use Rattle.tickets.proofs.enter_once.Statement.{statement}
 use Rattle.tickets.proofs.enter_once.Tie as tie

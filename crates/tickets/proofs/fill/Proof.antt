@@ -1,11 +1,6 @@
-use Rattle.tickets.specs.Table.{entry-of}
-use Rattle.tickets.specs.EntryLaws.{fitted-fill}
-use Rattle.tickets.specs.Changes.{changed-there, changed-none}
+use Rattle.lists.specs.Basics.{arith, _%_, _≡_, _∙_, ap, needs}
+use Rattle.tickets.specs.{Table.entry-of, EntryLaws.fitted-fill, Changes.{changed-there, changed-none}}
 use Rattle.protocol.specs.Tickets.{fill, filled}
-use native.Mathlib.Omega.{arith}
-use Prim.Native.Nat.{_%_}
-use mathlib.Core.Path.{_≡_, _∙_, ap}
-use borrow.Author.Needs.{needs}
 use Rattle.tickets.proofs.fill.Statement.{statement}
 use Rattle.tickets.proofs.fill.Tie as tie
 

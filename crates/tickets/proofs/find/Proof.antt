@@ -1,9 +1,5 @@
-use Rattle.tickets.specs.Table.{found-entry}
-use Rattle.tickets.specs.Changes.{found-there, found-none}
-use native.Mathlib.Omega.{arith}
-use mathlib.Core.Path.{_∙_, ap}
-use mathlib.Core.Option.{some}
-use borrow.Author.Needs.{needs}
+use Rattle.lists.specs.Basics.{arith, _∙_, ap, some, needs}
+use Rattle.tickets.specs.{Table.found-entry, Changes.{found-there, found-none}}
 use Rattle.tickets.proofs.find.Statement.{statement}
 use Rattle.tickets.proofs.find.Tie as tie
 

@@ -1,13 +1,7 @@
-use Rattle.tickets.specs.Table.{entries, found-entry}
-use Rattle.tickets.specs.Loops.{first-here, first-later, first-none}
+use Rattle.lists.specs.Basics.{drop, arith, _-_, _≤_, some, _≡_, refl, sym, ap, _∙_, needs}
+use Rattle.tickets.specs.{Table.{entries, found-entry}, Loops.{first-here, first-later, first-none}}
 use Rattle.protocol.specs.Tickets.{has-tn}
 use Rattle.lists.specs.Lists.{find}
-use lib.ListN.{drop}
-use native.Mathlib.Omega.{arith}
-use Prim.Native.Nat.{_-_, _≤_}
-use mathlib.Core.Option.{some}
-use mathlib.Core.Path.{_≡_, refl, sym, ap, _∙_}
-use borrow.Author.Needs.{needs}
 use Rattle.tickets.proofs.find_tn.Statement.{statement}
 use Rattle.tickets.proofs.find_tn.Tie as tie
 

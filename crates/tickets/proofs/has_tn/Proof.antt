@@ -1,12 +1,7 @@
-use Rattle.tickets.specs.Table.{entries}
-use Rattle.tickets.specs.Loops.{has-here, has-later, has-none}
+use Rattle.lists.specs.Basics.{drop, arith, _-_, _≤_, _≡_, refl, sym, _∙_, needs}
+use Rattle.tickets.specs.{Table.entries, Loops.{has-here, has-later, has-none}}
 use Rattle.protocol.specs.Tickets.{has-tn}
 use Rattle.lists.specs.Lists.{anyb}
-use lib.ListN.{drop}
-use native.Mathlib.Omega.{arith}
-use Prim.Native.Nat.{_-_, _≤_}
-use mathlib.Core.Path.{_≡_, refl, sym, _∙_}
-use borrow.Author.Needs.{needs}
 use Rattle.tickets.proofs.has_tn.Statement.{statement}
 use Rattle.tickets.proofs.has_tn.Tie as tie
 

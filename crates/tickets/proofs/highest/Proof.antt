@@ -1,11 +1,6 @@
-use Rattle.tickets.specs.Table.{entries}
-use Rattle.tickets.specs.Loops.{highest-more, highest-same, highest-end}
+use Rattle.lists.specs.Basics.{drop, arith, _-_, _≤_, _≡_, refl, sym, _∙_, needs}
+use Rattle.tickets.specs.{Table.entries, Loops.{highest-more, highest-same, highest-end}}
 use Rattle.protocol.specs.Tickets.{highest}
-use lib.ListN.{drop}
-use native.Mathlib.Omega.{arith}
-use Prim.Native.Nat.{_-_, _≤_}
-use mathlib.Core.Path.{_≡_, refl, sym, _∙_}
-use borrow.Author.Needs.{needs}
 use Rattle.tickets.proofs.highest.Statement.{statement}
 use Rattle.tickets.proofs.highest.Tie as tie
 

@@ -1,11 +1,6 @@
-use mathlib.Core.Path.{_≡_, sym, _∙_}
-use Prim.Native.Nat.{_-_, _≤_}
-use native.Mathlib.Omega.{arith}
-use borrow.Author.Needs.{needs}
-use borrow.Author.Tests.{not-true, not-false}
+use Rattle.lists.specs.Basics.{_≡_, sym, _∙_, _-_, _≤_, arith, needs, not-true, not-false}
 use Rattle.protocol.specs.Tickets.{lowest-hole, first-free}
-use Rattle.tickets.specs.Table.{entries, found-hole}
-use Rattle.tickets.specs.Holes.{no-span, hole-start, hole-here, hole-later, no-hole}
+use Rattle.tickets.specs.{Table.{entries, found-hole}, Holes.{no-span, hole-start, hole-here, hole-later, no-hole}}
 use Rattle.tickets.proofs.lowest_hole.Statement.{statement}
 use Rattle.tickets.proofs.lowest_hole.Tie as tie
 

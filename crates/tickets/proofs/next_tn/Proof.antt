@@ -1,8 +1,5 @@
-use mathlib.Core.Path.{sym, ap, _∙_}
-use Prim.Native.Nat.{_+_}
-use borrow.Author.Needs.{needs}
-use Rattle.tickets.specs.Table.{found-hole}
-use Rattle.tickets.specs.Holes.{next-hole, next-highest}
+use Rattle.lists.specs.Basics.{sym, ap, _∙_, _+_, needs}
+use Rattle.tickets.specs.{Table.found-hole, Holes.{next-hole, next-highest}}
 use Rattle.tickets.proofs.next_tn.Statement.{statement}
 use Rattle.tickets.proofs.next_tn.Tie as tie
 

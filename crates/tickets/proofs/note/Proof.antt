@@ -1,9 +1,6 @@
-use mathlib.Core.Path.{ap, _∙_}
-use native.Mathlib.Omega.{arith}
-use borrow.Author.Needs.{needs}
+use Rattle.lists.specs.Basics.{ap, _∙_, arith, needs}
 use Rattle.protocol.specs.Tickets.{note-entry}
-use Rattle.tickets.specs.Table.{entry-of}
-use Rattle.tickets.specs.Changes.{changed-there, changed-none}
+use Rattle.tickets.specs.{Table.entry-of, Changes.{changed-there, changed-none}}
 use Rattle.tickets.proofs.note.Statement.{statement}
 use Rattle.tickets.proofs.note.Tie as tie
 

@@ -1,7 +1,6 @@
+use Rattle.lists.specs.Basics.{_∙_, needs}
 use Rattle.tickets.specs.EntryLaws.{fitted-note}
 use Rattle.protocol.specs.Tickets.{note-entry}
-use mathlib.Core.Path.{_∙_}
-use borrow.Author.Needs.{needs}
 use Rattle.tickets.proofs.noted.Statement.{statement}
 use Rattle.tickets.proofs.noted.Tie as tie
 

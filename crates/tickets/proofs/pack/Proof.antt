@@ -1,7 +1,6 @@
+use Rattle.lists.specs.Basics.{_≡_, needs}
 use Rattle.tickets.specs.EntryLaws.{entry-says}
 use Rattle.words.specs.Fields.{bit}
-use mathlib.Core.Path.{_≡_}
-use borrow.Author.Needs.{needs}
 use Rattle.tickets.proofs.pack.Statement.{statement}
 use Rattle.tickets.proofs.pack.Tie as tie
 

@@ -1,17 +1,8 @@
-use Rattle.tickets.specs.Table.{entry-of, entries}
-use Rattle.tickets.specs.EntryLaws.{is-above, is-below}
-use Rattle.tickets.specs.Changes.{prune-none, prune-start, prune-end}
-use Rattle.words.specs.Sift.{sifted, sift-length, sift-keep, sift-skip, sift-end}
-use Rattle.words.specs.Rows.{row}
-use Rattle.protocol.specs.Checkpoint.{above-height}
-use Rattle.protocol.specs.Tickets.{note-entry}
+use Rattle.lists.specs.Basics.{length, length-set, arith, _-_, _≤_, _<_, map, _≡_, refl, sym, _∙_, needs}
+use Rattle.tickets.specs.{Table.{entry-of, entries}, EntryLaws.{is-above, is-below}, Changes.{prune-none, prune-start, prune-end}}
+use Rattle.words.specs.{Sift.{sifted, sift-length, sift-keep, sift-skip, sift-end}, Rows.row}
+use Rattle.protocol.specs.{Checkpoint.above-height, Tickets.note-entry}
 use Rattle.lists.specs.Lists.{keep}
-use lib.ListN.{length, length-set}
-use native.Mathlib.Omega.{arith}
-use Prim.Native.Nat.{_-_, _≤_, _<_}
-use mathlib.Core.List.{map}
-use mathlib.Core.Path.{_≡_, refl, sym, _∙_}
-use borrow.Author.Needs.{needs}
 use Rattle.tickets.proofs.prune.Statement.{statement}
 use Rattle.tickets.proofs.prune.Tie as tie
 

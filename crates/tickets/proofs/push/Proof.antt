@@ -1,4 +1,4 @@
-use borrow.Author.Needs.{needs}
+use Rattle.lists.specs.Basics.{needs}
 use Rattle.tickets.specs.Changes.{entered}
 use Rattle.tickets.proofs.push.Statement.{statement}
 use Rattle.tickets.proofs.push.Tie as tie

@@ -1,8 +1,5 @@
-use mathlib.Core.Path.{sym, ap, _∙_}
-use native.Mathlib.Omega.{arith}
-use borrow.Author.Needs.{needs}
-use Rattle.tickets.specs.Table.{found-hole}
-use Rattle.tickets.specs.Holes.{hole-above, target-hole, target-highest}
+use Rattle.lists.specs.Basics.{sym, ap, _∙_, arith, needs}
+use Rattle.tickets.specs.{Table.found-hole, Holes.{hole-above, target-hole, target-highest}}
 use Rattle.tickets.proofs.target.Statement.{statement}
 use Rattle.tickets.proofs.target.Tie as tie
 

@@ -1,5 +1,5 @@
+use Rattle.lists.specs.Basics.{needs}
 use Rattle.tickets.specs.Table.{entry-of, as-entry}
-use borrow.Author.Needs.{needs}
 use Rattle.tickets.proofs.unpack.Statement.{statement}
 use Rattle.tickets.proofs.unpack.Tie as tie
 

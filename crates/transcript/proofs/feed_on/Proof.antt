@@ -1,19 +1,8 @@
 -- `feed_on`: the invariant is that what was taken so far is read, and its answers written.
-use mathlib.Core.List.{_++_}
-use mathlib.Core.Path.{_≡_, sym, ap, _∙_}
-use Prim.Native.Nat.{_+_, _-_, _≤_, _<_}
-use native.Mathlib.Omega.{arith}
-use borrow.Author.Needs.{needs}
-use lib.ListN.{length, take, drop, length-drop}
-use lib.Seq.{length-take-le}
-use Rattle.store.specs.Places.{STORE}
-use Rattle.store.specs.View.{view, outcome}
-use Rattle.transcript.specs.Reading.{LINE, line-room, within}
-use Rattle.transcript.specs.LineWise.{line-end, line-end-le, line-end-rest, line-part}
-use Rattle.transcript.specs.Copies.{take-min}
-use Rattle.transcript.specs.Printed.{printed-fits}
-use Rattle.transcript.specs.Feeding.{Fed-so-far, nothing-yet, fed-turn, fed-stop, at-end, no-room, kept-part}
-use Rattle.transcript.specs.View.{reading, fed}
+use Rattle.lists.specs.Basics.{_++_, _≡_, sym, ap, _∙_, _+_, _-_, _≤_, _<_, arith, needs, length, take, drop, length-drop, length-take-le}
+use Rattle.store.specs.{Places.STORE, View.{view, outcome}}
+use Rattle.transcript.specs.{Reading.{LINE, line-room, within}, LineWise.{line-end, line-end-le, line-end-rest, line-part}, Copies.take-min, Printed.printed-fits}
+use Rattle.transcript.specs.{Feeding.{Fed-so-far, nothing-yet, fed-turn, fed-stop, at-end, no-room, kept-part}, View.{reading, fed}}
 use Rattle.transcript.proofs.feed_on.Statement.{statement}
 use Rattle.transcript.proofs.feed_on.Tie as tie
 

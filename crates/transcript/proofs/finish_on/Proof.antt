@@ -1,5 +1,5 @@
 -- `finish_on` answers a line that was begun as if a newline came.
-use borrow.Author.Needs.{needs}
+use Rattle.lists.specs.Basics.{needs}
 use Rattle.transcript.specs.Ends.{one-begun, ends-empty, ends-begun}
 use Rattle.transcript.proofs.finish_on.Statement.{statement}
 use Rattle.transcript.proofs.finish_on.Tie as tie

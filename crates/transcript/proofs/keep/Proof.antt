@@ -1,10 +1,5 @@
 -- `keep` puts a piece behind the bytes of a line, as far as there is room. The invariant: i bytes are copied.
-use mathlib.Core.Path.{_≡_, ap, _∙_}
-use Prim.Native.Nat.{_+_, _-_, _≤_}
-use native.Mathlib.Omega.{arith}
-use borrow.Author.Needs.{needs}
-use lib.ListN.{take}
-use lib.Seq.{paste}
+use Rattle.lists.specs.Basics.{_≡_, ap, _∙_, _+_, _-_, _≤_, arith, needs, take, paste}
 use Rattle.transcript.specs.Copies.{Copied, copy-none, copy-one, kept-piece}
 use Rattle.transcript.proofs.keep.Statement.{statement}
 use Rattle.transcript.proofs.keep.Tie as tie

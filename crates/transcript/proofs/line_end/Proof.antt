@@ -1,9 +1,5 @@
 -- `line_end` counts the bytes before the first newline. The invariant: those passed are none.
-use mathlib.Core.Path.{_≡_}
-use Prim.Native.Nat.{_+_, _-_, _≤_}
-use native.Mathlib.Omega.{arith}
-use borrow.Author.Needs.{needs}
-use lib.ListN.{length, drop}
+use Rattle.lists.specs.Basics.{_≡_, _+_, _-_, _≤_, arith, needs, length, drop}
 use Rattle.transcript.specs.LineWise.{line-end, end-here, end-later, end-nowhere}
 use Rattle.transcript.proofs.line_end.Statement.{statement}
 use Rattle.transcript.proofs.line_end.Tie as tie

@@ -1,11 +1,6 @@
 -- `put` writes the line of an answer. The invariant: i bytes are copied, of at most 15.
-use mathlib.Core.Path.{_≡_}
-use Prim.Native.Nat.{_-_, _≤_}
-use native.Mathlib.Omega.{arith}
-use borrow.Author.Needs.{needs}
-use lib.ListN.{length}
-use Rattle.transcript.specs.Copies.{Copied, copy-none, copy-one}
-use Rattle.transcript.specs.Printed.{printed-count, printed-small, printed-copied}
+use Rattle.lists.specs.Basics.{_≡_, _-_, _≤_, arith, needs, length}
+use Rattle.transcript.specs.{Copies.{Copied, copy-none, copy-one}, Printed.{printed-count, printed-small, printed-copied}}
 use Rattle.transcript.proofs.put.Statement.{statement}
 use Rattle.transcript.proofs.put.Tie as tie
 

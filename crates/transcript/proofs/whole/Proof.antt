@@ -1,12 +1,6 @@
 -- `whole` writes the transcript of an input, as far as there is room.
-use mathlib.Core.Path.{subst}
-use Prim.Native.Nat.{_-_, _≤_}
-use native.Mathlib.Omega.{arith}
-use borrow.Author.Needs.{needs}
-use lib.ListN.{length, take, drop, length-take}
-use Rattle.transcript.specs.Ends.{fed-fits, ended-fits, whole-short, whole-long}
-use Rattle.transcript.specs.Reading.{beginning}
-use Rattle.transcript.specs.View.{Feeding, zeros-read}
+use Rattle.lists.specs.Basics.{subst, _-_, _≤_, arith, needs, length, take, drop, length-take}
+use Rattle.transcript.specs.{Ends.{fed-fits, ended-fits, whole-short, whole-long}, Reading.beginning, View.{Feeding, zeros-read}}
 use Rattle.transcript.proofs.whole.Statement.{statement}
 use Rattle.transcript.proofs.whole.Tie as tie
 

@@ -1,8 +1,4 @@
-use mathlib.Core.Path.{_≡_, refl}
-use Prim.Native.Nat.{_-_, _≤_}
-use native.Mathlib.Omega.{arith}
-use borrow.Author.Needs.{needs}
-use lib.ListN.{length, length-set, take}
+use Rattle.lists.specs.Basics.{_≡_, refl, _-_, _≤_, arith, needs, length, length-set, take}
 use Rattle.words.specs.Zeros.{zeros, clear-one, clear-end}
 use Rattle.words.proofs.clear.Statement.{statement}
 use Rattle.words.proofs.clear.Tie as tie

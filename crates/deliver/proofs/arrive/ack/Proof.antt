@@ -1,12 +1,9 @@
 -- `ack` notes the entry in the table.
-use mathlib.Core.Path.{ap}
-use native.Mathlib.Omega.{arith}
-use borrow.Author.Needs.{needs}
+use Rattle.lists.specs.Basics.{ap, arith, needs}
 use Rattle.lists.specs.Lists.{change1}
 use Rattle.protocol.specs.Tickets.{for-message, note-entry}
 use Rattle.memory.specs.View.{table-changed}
-use Rattle.deliver.specs.Effect.{quiet, ack-effect}
-use Rattle.deliver.specs.View.{effect-of, reply-of}
+use Rattle.deliver.specs.{Effect.{quiet, ack-effect}, View.{effect-of, reply-of}}
 use Rattle.deliver.proofs.arrive.ack.Statement.{statement}
 use Rattle.deliver.proofs.arrive.ack.Tie as tie
 

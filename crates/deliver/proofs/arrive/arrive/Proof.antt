@@ -1,9 +1,6 @@
 -- `arrive` goes by the content.
-use mathlib.Core.Path.{refl}
-use borrow.Author.Needs.{needs}
-use Rattle.deliver.specs.Effect.{effect, effect-questions}
-use Rattle.deliver.specs.Fits.{hops-fit}
-use Rattle.deliver.specs.View.{effect-of, reply-of, came, did}
+use Rattle.lists.specs.Basics.{refl, needs}
+use Rattle.deliver.specs.{Effect.{effect, effect-questions}, Fits.hops-fit, View.{effect-of, reply-of, came, did}}
 use Rattle.deliver.proofs.arrive.arrive.Statement.{statement}
 use Rattle.deliver.proofs.arrive.arrive.Tie as tie
 

@@ -1,25 +1,13 @@
 -- `ask`: an entry found, the SN worked, a refusal, or a new ticket.
-use mathlib.Core.Option.{none}
-use mathlib.Core.Path.{_≡_, refl, sym, ap, _∙_}
-use mathlib.Core.Bool.{false}
-use Prim.Native.Nat.{_-_}
-use native.Mathlib.Omega.{arith}
-use native.Mathlib.Nat.{mod-eq-of-lt}
-use borrow.Author.Needs.{needs}
-use borrow.Author.Tests.{not-true, not-false}
-use lib.ListN.{length}
+use Rattle.lists.specs.Basics.{none, _≡_, refl, sym, ap, _∙_, false, _-_, arith, mod-eq-of-lt, needs, not-true, not-false, length}
 use Rattle.lists.specs.Questions.{ok}
 use Rattle.arrays.specs.Front.{push}
-use Rattle.protocol.specs.Packets.{is-worked}
-use Rattle.protocol.specs.Tickets.{entry, new-tn, unreceived}
-use Rattle.protocol.specs.declared.Content.the-variants.{GrantNew as GRANT-new}
+use Rattle.protocol.specs.{Packets.is-worked, Tickets.{entry, new-tn, unreceived}, declared.Content.the-variants.GrantNew as GRANT-new}
 use Rattle.words.specs.Part.{part, part-length}
 use Rattle.tickets.specs.Table.{found-entry}
-use Rattle.memory.specs.Places.{TABLE, ROW}
-use Rattle.memory.specs.View.{memory-view, table-part, table-changed}
-use Rattle.deliver.specs.Effect.{answering}
-use Rattle.deliver.specs.EffectLaws.{ask-found, ask-worked, ask-new, tn-passes, not-admitted, table-full, entered, worked-by, tn-by}
-use Rattle.deliver.specs.View.{effect-of, reply-of, replying, refusing}
+use Rattle.memory.specs.{Places.{TABLE, ROW}, View.{memory-view, table-part, table-changed}}
+use Rattle.deliver.specs.{Effect.answering, EffectLaws.{ask-found, ask-worked, ask-new, tn-passes, not-admitted, table-full, entered, worked-by, tn-by}}
+use Rattle.deliver.specs.{View.{effect-of, reply-of, replying, refusing}}
 use Rattle.deliver.proofs.arrive.ask.Statement.{statement}
 use Rattle.deliver.proofs.arrive.ask.Tie as tie
 

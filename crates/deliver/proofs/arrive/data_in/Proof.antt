@@ -1,15 +1,9 @@
 -- `data_in`: no entry, a received one, or one that is filled.
-use mathlib.Core.Path.{_∙_, ap, sym}
-use Prim.Native.Nat.{_%_}
-use native.Mathlib.Omega.{arith}
-use borrow.Author.Needs.{needs}
-use borrow.Author.Tests.{not-true, not-false}
+use Rattle.lists.specs.Basics.{_∙_, ap, sym, _%_, arith, needs, not-true, not-false}
 use Rattle.protocol.specs.Tickets.{entry, filled}
 use Rattle.tickets.specs.Table.{found-entry}
 use Rattle.memory.specs.View.{table-part, table-changed}
-use Rattle.deliver.specs.Effect.{quiet}
-use Rattle.deliver.specs.EffectLaws.{data-no-entry, data-received, data-fills}
-use Rattle.deliver.specs.View.{effect-of, reply-of}
+use Rattle.deliver.specs.{Effect.quiet, EffectLaws.{data-no-entry, data-received, data-fills}, View.{effect-of, reply-of}}
 use Rattle.deliver.proofs.arrive.data_in.Statement.{statement}
 use Rattle.deliver.proofs.arrive.data_in.Tie as tie
 

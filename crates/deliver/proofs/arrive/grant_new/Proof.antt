@@ -1,13 +1,8 @@
 -- `grant_new`: the message without a TN gets it, and goes out.
-use mathlib.Core.Path.{_∙_, ap, sym}
-use native.Mathlib.Omega.{arith}
-use borrow.Author.Needs.{needs}
-use Rattle.protocol.specs.Packets.{lookup, ticketed}
-use Rattle.protocol.specs.declared.Content.the-variants.{Data as DATA}
+use Rattle.lists.specs.Basics.{_∙_, ap, sym, arith, needs}
+use Rattle.protocol.specs.{Packets.{lookup, ticketed}, declared.Content.the-variants.Data as DATA}
 use Rattle.memory.specs.View.{log-part, log-changed}
-use Rattle.deliver.specs.Effect.{answering, grant-new-effect}
-use Rattle.deliver.specs.EffectLaws.{dropped, taken-out}
-use Rattle.deliver.specs.View.{effect-of, reply-of}
+use Rattle.deliver.specs.{Effect.{answering, grant-new-effect}, EffectLaws.{dropped, taken-out}, View.{effect-of, reply-of}}
 use Rattle.deliver.proofs.Tags.{no-unticketed}
 use Rattle.deliver.proofs.arrive.grant_new.Statement.{statement}
 use Rattle.deliver.proofs.arrive.grant_new.Tie as tie

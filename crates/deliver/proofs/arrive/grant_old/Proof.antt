@@ -1,13 +1,9 @@
 -- `grant_old`: the message without a TN goes.
-use mathlib.Core.Path.{_∙_, ap, sym}
-use native.Mathlib.Omega.{arith}
-use borrow.Author.Needs.{needs}
+use Rattle.lists.specs.Basics.{_∙_, ap, sym, arith, needs}
 use Rattle.lists.specs.Lists.{remove1}
 use Rattle.protocol.specs.Packets.{lookup, for-receiver}
 use Rattle.memory.specs.View.{log-part, log-changed}
-use Rattle.deliver.specs.Effect.{quiet, grant-old-effect}
-use Rattle.deliver.specs.EffectLaws.{dropped, taken-out}
-use Rattle.deliver.specs.View.{effect-of, reply-of}
+use Rattle.deliver.specs.{Effect.{quiet, grant-old-effect}, EffectLaws.{dropped, taken-out}, View.{effect-of, reply-of}}
 use Rattle.deliver.proofs.Tags.{no-unticketed}
 use Rattle.deliver.proofs.arrive.grant_old.Statement.{statement}
 use Rattle.deliver.proofs.arrive.grant_old.Tie as tie

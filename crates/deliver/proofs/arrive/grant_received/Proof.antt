@@ -1,12 +1,8 @@
 -- `grant_received`: the message without a TN gets it.
-use mathlib.Core.Path.{_∙_, ap, sym}
-use native.Mathlib.Omega.{arith}
-use borrow.Author.Needs.{needs}
+use Rattle.lists.specs.Basics.{_∙_, ap, sym, arith, needs}
 use Rattle.protocol.specs.Packets.{lookup, ticketed}
 use Rattle.memory.specs.View.{log-part, log-changed}
-use Rattle.deliver.specs.Effect.{quiet, grant-received-effect}
-use Rattle.deliver.specs.EffectLaws.{dropped, taken-out}
-use Rattle.deliver.specs.View.{effect-of, reply-of}
+use Rattle.deliver.specs.{Effect.{quiet, grant-received-effect}, EffectLaws.{dropped, taken-out}, View.{effect-of, reply-of}}
 use Rattle.deliver.proofs.Tags.{no-unticketed}
 use Rattle.deliver.proofs.arrive.grant_received.Statement.{statement}
 use Rattle.deliver.proofs.arrive.grant_received.Tie as tie

@@ -1,14 +1,7 @@
 -- `all_back` goes through the chares. The loop: those below n are back.
-use mathlib.Core.Path.{_≡_, sym, _∙_}
-use Prim.Native.Nat.{_-_, _≤_}
-use native.Mathlib.Omega.{arith}
-use lib.ListN.{length}
-use Rattle.store.specs.Places.{STORE}
-use Rattle.store.specs.View.{view}
-use Rattle.restart.specs.Stored.{job-at}
-use Rattle.restart.specs.OnMachine.{beyond-not-on}
-use Rattle.restart.specs.Homes.{backs, backs-start, backs-all, loop-more, loop-skip}
-use borrow.Author.Needs.{needs}
+use Rattle.lists.specs.Basics.{_≡_, sym, _∙_, _-_, _≤_, arith, length, needs}
+use Rattle.store.specs.{Places.STORE, View.view}
+use Rattle.restart.specs.{Stored.job-at, OnMachine.beyond-not-on, Homes.{backs, backs-start, backs-all, loop-more, loop-skip}}
 use Rattle.restart.proofs.back.all_back.Statement.{statement}
 use Rattle.restart.proofs.back.all_back.Tie as tie
 

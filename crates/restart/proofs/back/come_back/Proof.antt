@@ -1,9 +1,7 @@
 -- `come_back` copies the memory, renews it and sets the target.
+use Rattle.lists.specs.Basics.{arith, inr, needs}
 use Rattle.restart.specs.Restored.{back-is, back-length}
 use Rattle.tickets.specs.Table.{entries}
-use native.Mathlib.Omega.{arith}
-use mathlib.Core.Logic.{inr}
-use borrow.Author.Needs.{needs}
 use Rattle.restart.proofs.back.come_back.Statement.{statement}
 use Rattle.restart.proofs.back.come_back.Tie as tie
 

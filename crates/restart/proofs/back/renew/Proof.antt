@@ -1,6 +1,6 @@
 -- `renew` puts the table, then the top.
+use Rattle.lists.specs.Basics.{needs}
 use Rattle.restart.specs.Restored.{renew-memory, renew-target}
-use borrow.Author.Needs.{needs}
 use Rattle.restart.proofs.back.renew.Statement.{statement}
 use Rattle.restart.proofs.back.renew.Tie as tie
 

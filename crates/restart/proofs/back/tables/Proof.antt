@@ -1,13 +1,7 @@
 -- `tables` goes through the chares. The loop: the tables below n are built.
-use mathlib.Core.Path.{_≡_}
-use Prim.Native.Nat.{_-_, _≤_}
-use native.Mathlib.Omega.{arith}
-use borrow.Author.Tests.{not-true, not-false}
-use lib.ListN.{length}
+use Rattle.lists.specs.Basics.{_≡_, _-_, _≤_, arith, not-true, not-false, length, needs}
 use Rattle.store.specs.View.{view}
-use Rattle.restart.specs.OnMachine.{home-at}
-use Rattle.restart.specs.Homes.{ROWS, Going, going-start, going-end, going-skip, going-stop, going-more}
-use borrow.Author.Needs.{needs}
+use Rattle.restart.specs.{OnMachine.home-at, Homes.{ROWS, Going, going-start, going-end, going-skip, going-stop, going-more}}
 use Rattle.restart.proofs.back.tables.Statement.{statement}
 use Rattle.restart.proofs.back.tables.Tie as tie
 

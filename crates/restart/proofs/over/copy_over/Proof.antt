@@ -1,10 +1,6 @@
 -- `copy_over` copies word by word: i words are there.
-use mathlib.Core.Path.{_≡_, refl}
-use Prim.Native.Nat.{_-_, _≤_}
-use native.Mathlib.Omega.{arith}
-use lib.ListN.{length, take, length-set}
+use Rattle.lists.specs.Basics.{_≡_, refl, _-_, _≤_, arith, length, take, length-set, needs}
 use Rattle.restart.specs.Over.{over-one, over-all}
-use borrow.Author.Needs.{needs}
 use Rattle.restart.proofs.over.copy_over.Statement.{statement}
 use Rattle.restart.proofs.over.copy_over.Tie as tie
 

@@ -1,6 +1,6 @@
 -- `from_elsewhere` meets its contract, case by case.
+use Rattle.lists.specs.Basics.{needs}
 use Rattle.restart.specs.Resends.{ask-there, none-there, data-there}
-use borrow.Author.Needs.{needs}
 use Rattle.restart.proofs.resend.from_elsewhere.Statement.{statement}
 use Rattle.restart.proofs.resend.from_elsewhere.Tie as tie
 

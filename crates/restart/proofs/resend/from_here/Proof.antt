@@ -1,6 +1,6 @@
 -- `from_here` meets its contract, case by case.
+use Rattle.lists.specs.Basics.{needs}
 use Rattle.restart.specs.Resends.{ask-here, none-here}
-use borrow.Author.Needs.{needs}
 use Rattle.restart.proofs.resend.from_here.Statement.{statement}
 use Rattle.restart.proofs.resend.from_here.Tie as tie
 

@@ -1,7 +1,6 @@
 -- `height_back` reads the copy.
+use Rattle.lists.specs.Basics.{sym, _∙_, needs}
 use Rattle.restart.specs.Stored.{copy-height}
-use mathlib.Core.Path.{sym, _∙_}
-use borrow.Author.Needs.{needs}
 use Rattle.restart.proofs.resend.height_back.Statement.{statement}
 use Rattle.restart.proofs.resend.height_back.Tie as tie
 

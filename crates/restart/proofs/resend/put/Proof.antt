@@ -1,9 +1,8 @@
 -- `put` joins the wire where there is room.
+use Rattle.lists.specs.Basics.{arith, needs}
 use Rattle.protocol.specs.Sending.{about}
 use Rattle.restart.specs.Sent.{put-none, put-one, put-full}
 use Rattle.packets.specs.Words.{packets}
-use native.Mathlib.Omega.{arith}
-use borrow.Author.Needs.{needs}
 use Rattle.restart.proofs.resend.put.Statement.{statement}
 use Rattle.restart.proofs.resend.put.Tie as tie
 

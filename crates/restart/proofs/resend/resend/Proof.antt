@@ -1,9 +1,6 @@
 -- `resend` goes by where receiver and sender are.
-use Rattle.restart.specs.OnMachine.{on-last}
-use Rattle.restart.specs.Resends.{again-inside, again-in, again-out, again-outside}
-use native.Mathlib.Omega.{arith}
-use mathlib.Core.Path.{sym, _∙_}
-use borrow.Author.Needs.{needs}
+use Rattle.lists.specs.Basics.{arith, sym, _∙_, needs}
+use Rattle.restart.specs.{OnMachine.on-last, Resends.{again-inside, again-in, again-out, again-outside}}
 use Rattle.restart.proofs.resend.resend.Statement.{statement}
 use Rattle.restart.proofs.resend.resend.Tie as tie
 

@@ -1,18 +1,10 @@
 -- `resend_all` goes through the logs. The loop: those from q on are still to be sent.
-use mathlib.Core.Path.{_≡_}
-use Prim.Native.Nat.{_-_, _≤_}
-use native.Mathlib.Omega.{arith}
-use borrow.Author.Tests.{not-true, not-false}
-use lib.ListN.{length}
+use Rattle.lists.specs.Basics.{_≡_, _-_, _≤_, arith, not-true, not-false, length, needs}
 use Rattle.lists.specs.Lists.{gather}
 use Rattle.protocol.specs.Parts.{every-sender}
 use Rattle.packets.specs.Words.{packets}
-use Rattle.store.specs.Places.{PACKETS}
-use Rattle.store.specs.View.{view}
-use Rattle.restart.specs.Ranges.{range, range-next, range-past, range-senders}
-use Rattle.restart.specs.Resends.{all-again}
-use Rattle.restart.specs.Sent.{putting, put-end, put-on, put-stop}
-use borrow.Author.Needs.{needs}
+use Rattle.store.specs.{Places.PACKETS, View.view}
+use Rattle.restart.specs.{Ranges.{range, range-next, range-past, range-senders}, Resends.all-again, Sent.{putting, put-end, put-on, put-stop}}
 use Rattle.restart.proofs.resend.resend_all.Statement.{statement}
 use Rattle.restart.proofs.resend.resend_all.Tie as tie
 

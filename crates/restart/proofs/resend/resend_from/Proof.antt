@@ -1,7 +1,6 @@
 -- `resend_from` takes the log of the copy, or the live one.
+use Rattle.lists.specs.Basics.{sym, _∙_, needs}
 use Rattle.restart.specs.Resends.{all-here, all-there}
-use mathlib.Core.Path.{sym, _∙_}
-use borrow.Author.Needs.{needs}
 use Rattle.restart.proofs.resend.resend_from.Statement.{statement}
 use Rattle.restart.proofs.resend.resend_from.Tie as tie
 

@@ -1,19 +1,10 @@
 -- `resend_log` goes through a log. The loop: the messages from i on are still to be sent.
-use mathlib.Core.Path.{_≡_, refl}
-use Prim.Native.Nat.{_-_, _≤_}
-use native.Mathlib.Omega.{arith}
-use borrow.Author.Tests.{not-true, not-false}
-use lib.ListN.{length, drop}
+use Rattle.lists.specs.Basics.{_≡_, refl, _-_, _≤_, arith, not-true, not-false, length, drop, needs}
 use Rattle.lists.specs.Lists.{gather}
 use Rattle.logs.specs.Log.{logged-of, entries as messages}
 use Rattle.packets.specs.Words.{packets}
-use Rattle.store.specs.Places.{PACKETS}
-use Rattle.store.specs.View.{view}
-use Rattle.restart.specs.Gather.{next, past}
-use Rattle.restart.specs.Sources.{logged-fits}
-use Rattle.restart.specs.Resends.{again}
-use Rattle.restart.specs.Sent.{putting, put-again, put-end, put-on, put-stop}
-use borrow.Author.Needs.{needs}
+use Rattle.store.specs.{Places.PACKETS, View.view}
+use Rattle.restart.specs.{Gather.{next, past}, Sources.logged-fits, Resends.again, Sent.{putting, put-again, put-end, put-on, put-stop}}
 use Rattle.restart.proofs.resend.resend_log.Statement.{statement}
 use Rattle.restart.proofs.resend.resend_log.Tie as tie
 

@@ -1,6 +1,5 @@
 -- `resend_sorted` sends a sorted copy of the log.
-use mathlib.Core.Path.{_∙_}
-use borrow.Author.Needs.{needs}
+use Rattle.lists.specs.Basics.{_∙_, needs}
 use Rattle.restart.proofs.resend.resend_sorted.Statement.{statement}
 use Rattle.restart.proofs.resend.resend_sorted.Tie as tie
 

@@ -1,8 +1,6 @@
 -- `build` is three walks, each from the table that the one before left, and the messages that fill.
+use Rattle.lists.specs.Basics.{not-true, not-false, length-set, needs}
 use Rattle.restart.specs.Built.{build-stop, build-stop-2, build-stop-3, build-all}
-use borrow.Author.Tests.{not-true, not-false}
-use lib.ListN.{length-set}
-use borrow.Author.Needs.{needs}
 use Rattle.restart.proofs.table.build.Statement.{statement}
 use Rattle.restart.proofs.table.build.Tie as tie
 

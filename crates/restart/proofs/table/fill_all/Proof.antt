@@ -1,17 +1,10 @@
 -- `fill_all` goes through the copied logs. The loop: those from q on still fill.
-use mathlib.Core.Path.{_≡_, refl, sym, _∙_}
-use Prim.Native.Nat.{_-_, _≤_}
-use native.Mathlib.Omega.{arith}
-use lib.ListN.{length}
+use Rattle.lists.specs.Basics.{_≡_, refl, sym, _∙_, _-_, _≤_, arith, length, needs}
 use Rattle.lists.specs.Lists.{gather}
-use Rattle.protocol.specs.Parts.{every-chare}
-use Rattle.protocol.specs.Restart.{local-log}
+use Rattle.protocol.specs.{Parts.every-chare, Restart.local-log}
 use Rattle.tickets.specs.Table.{entries}
 use Rattle.store.specs.View.{view}
-use Rattle.restart.specs.Fills.{filling, fill-on, fill-skip, fill-end}
-use Rattle.restart.specs.Ranges.{range, range-next, range-past, range-chares}
-use Rattle.restart.specs.Sources.{local-here, local-there}
-use borrow.Author.Needs.{needs}
+use Rattle.restart.specs.{Fills.{filling, fill-on, fill-skip, fill-end}, Ranges.{range, range-next, range-past, range-chares}, Sources.{local-here, local-there}}
 use Rattle.restart.proofs.table.fill_all.Statement.{statement}
 use Rattle.restart.proofs.table.fill_all.Tie as tie
 

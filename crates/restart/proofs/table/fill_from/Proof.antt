@@ -1,14 +1,8 @@
 -- `fill_from` fills from a log. The loop: the messages from i on still fill.
-use Rattle.restart.specs.Sources.{logged-fits}
-use Rattle.restart.specs.Gather.{next, past}
-use mathlib.Core.Path.{_≡_, refl, sym, _∙_}
-use Prim.Native.Nat.{_-_, _≤_}
-use native.Mathlib.Omega.{arith}
-use lib.ListN.{length, drop}
+use Rattle.lists.specs.Basics.{_≡_, refl, sym, _∙_, _-_, _≤_, arith, length, drop, needs}
+use Rattle.restart.specs.{Sources.logged-fits, Gather.{next, past}, Fills.{filling, filled-on, filled-skip, filled-end}}
 use Rattle.tickets.specs.Table.{entries}
 use Rattle.logs.specs.Log.{entries as messages, logged-of}
-use Rattle.restart.specs.Fills.{filling, filled-on, filled-skip, filled-end}
-use borrow.Author.Needs.{needs}
 use Rattle.restart.proofs.table.fill_from.Statement.{statement}
 use Rattle.restart.proofs.table.fill_from.Tie as tie
 

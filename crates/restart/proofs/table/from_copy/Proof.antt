@@ -1,16 +1,9 @@
 -- `from_copy` enters the tickets of a copy. The loop: the entries from i on are still to be entered.
-use Rattle.restart.specs.Gather.{next, past}
-use borrow.Author.Tests.{not-true, not-false}
-use mathlib.Core.Path.{_≡_, refl}
-use Prim.Native.Nat.{_-_, _≤_}
-use native.Mathlib.Omega.{arith}
-use lib.ListN.{length, drop}
+use Rattle.lists.specs.Basics.{not-true, not-false, _≡_, refl, _-_, _≤_, arith, length, drop, needs}
+use Rattle.restart.specs.{Gather.{next, past}, Tables.{entering, ticket-on, ticket-stop, enter-end}, Sources.{copied, copied-is, sender-fits}}
 use Rattle.lists.specs.Lists.{gather}
 use Rattle.tickets.specs.Table.{entries, entry-of}
 use Rattle.memory.specs.Places.{ROW}
-use Rattle.restart.specs.Tables.{entering, ticket-on, ticket-stop, enter-end}
-use Rattle.restart.specs.Sources.{copied, copied-is, sender-fits}
-use borrow.Author.Needs.{needs}
 use Rattle.restart.proofs.table.from_copy.Statement.{statement}
 use Rattle.restart.proofs.table.from_copy.Tie as tie
 

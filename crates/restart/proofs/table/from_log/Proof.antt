@@ -1,17 +1,10 @@
 -- `from_log` enters the tickets of a log. The loop: the messages from i on are still to be entered.
-use Rattle.restart.specs.Gather.{next, past}
-use borrow.Author.Tests.{not-true, not-false}
-use mathlib.Core.Path.{_≡_, refl, sym, _∙_}
-use Prim.Native.Nat.{_-_, _≤_}
-use native.Mathlib.Omega.{arith}
-use lib.ListN.{length, drop}
+use Rattle.lists.specs.Basics.{not-true, not-false, _≡_, refl, sym, _∙_, _-_, _≤_, arith, length, drop, needs}
+use Rattle.restart.specs.{Gather.{next, past}, Tables.{entering, ticket-on, ticket-stop, enter-skip, enter-end}, Sources.{logged, logged-in, logged-out, logged-fits}}
 use Rattle.lists.specs.Lists.{gather}
 use Rattle.tickets.specs.Table.{entries}
 use Rattle.memory.specs.Places.{ROW}
 use Rattle.logs.specs.Log.{entries as messages, logged-of}
-use Rattle.restart.specs.Tables.{entering, ticket-on, ticket-stop, enter-skip, enter-end}
-use Rattle.restart.specs.Sources.{logged, logged-in, logged-out, logged-fits}
-use borrow.Author.Needs.{needs}
 use Rattle.restart.proofs.table.from_log.Statement.{statement}
 use Rattle.restart.proofs.table.from_log.Tie as tie
 

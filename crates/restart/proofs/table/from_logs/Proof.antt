@@ -1,18 +1,12 @@
 -- `from_logs` goes through the logs. The loop: those from q on are still to be entered.
-use mathlib.Core.Path.{_≡_, sym, _∙_}
-use Prim.Native.Nat.{_-_, _≤_}
-use native.Mathlib.Omega.{arith}
-use borrow.Author.Tests.{not-true, not-false}
-use lib.ListN.{length}
+use Rattle.lists.specs.Basics.{_≡_, sym, _∙_, _-_, _≤_, arith, not-true, not-false, length, needs}
 use Rattle.lists.specs.Lists.{gather}
 use Rattle.protocol.specs.Parts.{every-sender}
 use Rattle.tickets.specs.Table.{entries}
 use Rattle.memory.specs.Places.{ROW}
 use Rattle.store.specs.View.{view}
-use Rattle.restart.specs.Tables.{entering, enter-on, enter-stop, enter-skip, enter-end}
-use Rattle.restart.specs.Ranges.{range, range-next, range-past, range-senders}
-use Rattle.restart.specs.Sources.{sender-tickets, sender-here, sender-there}
-use borrow.Author.Needs.{needs}
+use Rattle.restart.specs.{Tables.{entering, enter-on, enter-stop, enter-skip, enter-end}, Ranges.{range, range-next, range-past, range-senders}}
+use Rattle.restart.specs.{Sources.{sender-tickets, sender-here, sender-there}}
 use Rattle.restart.proofs.table.from_logs.Statement.{statement}
 use Rattle.restart.proofs.table.from_logs.Tie as tie
 

@@ -1,17 +1,11 @@
 -- `from_notes` enters the notes. The loop: those from i on are still to be entered.
-use Rattle.restart.specs.Gather.{next, past}
-use borrow.Author.Tests.{not-true, not-false}
-use mathlib.Core.Path.{_≡_, refl}
-use Prim.Native.Nat.{_-_, _≤_}
-use native.Mathlib.Omega.{arith}
-use lib.ListN.{length, drop}
+use Rattle.lists.specs.Basics.{not-true, not-false, _≡_, refl, _-_, _≤_, arith, length, drop, needs}
+use Rattle.restart.specs.{Gather.{next, past}, Tables.{entering, ticket-on, ticket-stop, enter-skip, enter-end}}
+use Rattle.restart.specs.{Sources.{noted, noted-in, noted-other, noted-below, noted-fits}}
 use Rattle.lists.specs.Lists.{gather}
 use Rattle.tickets.specs.Table.{entries}
 use Rattle.memory.specs.Places.{ROW}
 use Rattle.notelist.specs.Notes.{notes, note-of}
-use Rattle.restart.specs.Tables.{entering, ticket-on, ticket-stop, enter-skip, enter-end}
-use Rattle.restart.specs.Sources.{noted, noted-in, noted-other, noted-below, noted-fits}
-use borrow.Author.Needs.{needs}
 use Rattle.restart.proofs.table.from_notes.Statement.{statement}
 use Rattle.restart.proofs.table.from_notes.Tie as tie
 

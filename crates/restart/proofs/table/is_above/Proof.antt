@@ -1,6 +1,6 @@
 -- `is_above` asks for the receiver, then for the TN.
+use Rattle.lists.specs.Basics.{needs}
 use Rattle.restart.specs.Sources.{above-other, above-tn}
-use borrow.Author.Needs.{needs}
 use Rattle.restart.proofs.table.is_above.Statement.{statement}
 use Rattle.restart.proofs.table.is_above.Tie as tie
 use Rattle.restart.proofs.table.is_above.Reads as reads

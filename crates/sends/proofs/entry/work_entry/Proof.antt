@@ -1,8 +1,5 @@
+use Rattle.lists.specs.Basics.{refl, sym, _∙_, not-true, not-false, _%_, needs}
 use Rattle.sends.specs.Worked.{not-ready, too-high, mark-too-high, worked}
-use mathlib.Core.Path.{refl, sym, _∙_}
-use borrow.Author.Tests.{not-true, not-false}
-use Prim.Native.Nat.{_%_}
-use borrow.Author.Needs.{needs}
 use Rattle.sends.proofs.entry.work_entry.Statement.{statement}
 use Rattle.sends.proofs.entry.work_entry.Tie as tie
 

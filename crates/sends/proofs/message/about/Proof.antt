@@ -1,4 +1,4 @@
-use mathlib.Core.Path.{refl}
+use Rattle.lists.specs.Basics.{refl}
 use Rattle.protocol.specs.Sending.{about}
 use Rattle.sends.proofs.message.about.Statement.{statement}
 use Rattle.sends.proofs.message.about.Tie as tie

@@ -1,12 +1,7 @@
-use lib.ListN.{length, set}
-use Prim.Native.Nat.{_+_, _≤_}
+use Rattle.lists.specs.Basics.{length, set, _+_, _≤_, _∙_, arith, length-set, needs}
 use Rattle.words.specs.Part.{put-length}
 use Rattle.memory.specs.Places.{SN, LOG, ROW}
-use mathlib.Core.Path.{_∙_}
 use Rattle.sends.specs.InMemory.{logged-put}
-use native.Mathlib.Omega.{arith}
-use lib.ListN.{length-set}
-use borrow.Author.Needs.{needs}
 use Rattle.sends.proofs.message.log_message.Statement.{statement}
 use Rattle.sends.proofs.message.log_message.Tie as tie
 

@@ -1,6 +1,4 @@
-use native.Mathlib.Omega.{arith}
-use borrow.Author.Needs.{needs}
-use borrow.Author.Tests.{lt-ltb, le-ltb}
+use Rattle.lists.specs.Basics.{arith, needs, lt-ltb, le-ltb}
 use Rattle.sends.specs.Ticket.{sn-next}
 use Rattle.sends.proofs.message.message_after.Statement.{statement}
 use Rattle.sends.proofs.message.message_after.Tie as tie

@@ -1,12 +1,7 @@
-use Rattle.sends.specs.Ticket.{to-wire}
-use Rattle.sends.specs.InMemory.{about-fits}
+use Rattle.lists.specs.Basics.{length, arith, _-_, _≡_, refl, _∙_, needs}
+use Rattle.sends.specs.{Ticket.to-wire, InMemory.about-fits}
 use Rattle.packets.specs.Words.{fit-content}
 use Rattle.protocol.specs.declared.Content.the-variants.{Ask, Note}
-use lib.ListN.{length}
-use native.Mathlib.Omega.{arith}
-use Prim.Native.Nat.{_-_}
-use mathlib.Core.Path.{_≡_, refl, _∙_}
-use borrow.Author.Needs.{needs}
 use Rattle.sends.proofs.message.put.Statement.{statement}
 use Rattle.sends.proofs.message.put.Tie as tie
 

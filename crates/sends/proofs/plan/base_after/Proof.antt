@@ -1,6 +1,5 @@
-use borrow.Author.Tests.{not-true, not-false}
+use Rattle.lists.specs.Basics.{not-true, not-false, needs}
 use Rattle.sends.specs.Plan.{base-after}
-use borrow.Author.Needs.{needs}
 use Rattle.sends.proofs.plan.base_after.Statement.{statement}
 use Rattle.sends.proofs.plan.base_after.Tie as tie
 

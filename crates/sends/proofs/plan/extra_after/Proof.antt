@@ -1,6 +1,5 @@
-use borrow.Author.Tests.{not-true, not-false}
+use Rattle.lists.specs.Basics.{not-true, not-false, needs}
 use Rattle.sends.specs.Plan.{extra-after}
-use borrow.Author.Needs.{needs}
 use Rattle.sends.proofs.plan.extra_after.Statement.{statement}
 use Rattle.sends.proofs.plan.extra_after.Tie as tie
 

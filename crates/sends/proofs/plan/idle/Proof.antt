@@ -1,4 +1,4 @@
-use mathlib.Core.Path.{refl}
+use Rattle.lists.specs.Basics.{refl}
 use Rattle.sends.specs.Plan.{idle}
 use Rattle.sends.proofs.plan.idle.Statement.{statement}
 use Rattle.sends.proofs.plan.idle.Tie as tie

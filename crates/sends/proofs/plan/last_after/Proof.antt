@@ -1,7 +1,5 @@
-use Rattle.sends.specs.Plan.{last-after}
-use Rattle.sends.specs.Ticket.{sn-next}
-use borrow.Author.Needs.{needs}
-use borrow.Author.Tests.{not-true, not-false, lt-ltb, le-ltb}
+use Rattle.lists.specs.Basics.{needs, not-true, not-false, lt-ltb, le-ltb}
+use Rattle.sends.specs.{Plan.last-after, Ticket.sn-next}
 use Rattle.sends.proofs.plan.last_after.Statement.{statement}
 use Rattle.sends.proofs.plan.last_after.Tie as tie
 

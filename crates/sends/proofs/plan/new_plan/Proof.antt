@@ -1,13 +1,9 @@
-use Rattle.sends.specs.Plan.{new-plan}
-use Rattle.sends.specs.Reading.{table-top}
-use Rattle.memory.specs.Places.{TABLE, ROW}
-use Rattle.memory.specs.View.{table-part}
+use Rattle.lists.specs.Basics.{le-leb, lt-leb, arith, needs}
+use Rattle.sends.specs.{Plan.new-plan, Reading.table-top}
+use Rattle.memory.specs.{Places.{TABLE, ROW}, View.table-part}
 use Rattle.words.specs.Part.{part}
 use Rattle.tickets.specs.Table.{entries}
 use Rattle.protocol.specs.Tickets.{next-tn}
-use borrow.Author.Tests.{le-leb, lt-leb}
-use native.Mathlib.Omega.{arith}
-use borrow.Author.Needs.{needs}
 use Rattle.sends.proofs.plan.new_plan.Statement.{statement}
 use Rattle.sends.proofs.plan.new_plan.Tie as tie
 

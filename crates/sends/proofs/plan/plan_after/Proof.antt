@@ -1,7 +1,5 @@
-use Rattle.sends.specs.Reading.{span}
-use Rattle.sends.specs.Planned.{plan-next-at}
-use mathlib.Core.Path.{_∙_}
-use borrow.Author.Needs.{needs}
+use Rattle.lists.specs.Basics.{_∙_, needs}
+use Rattle.sends.specs.{Reading.span, Planned.plan-next-at}
 use Rattle.sends.proofs.plan.plan_after.Statement.{statement}
 use Rattle.sends.proofs.plan.plan_after.Tie as tie
 

@@ -1,6 +1,5 @@
-use Rattle.sends.specs.Reading.{span}
-use Rattle.sends.specs.Planned.{plan-at}
-use borrow.Author.Needs.{needs}
+use Rattle.lists.specs.Basics.{needs}
+use Rattle.sends.specs.{Reading.span, Planned.plan-at}
 use Rattle.sends.proofs.plan.plan_of.Statement.{statement}
 use Rattle.sends.proofs.plan.plan_of.Tie as tie
 

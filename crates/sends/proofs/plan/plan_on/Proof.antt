@@ -1,10 +1,7 @@
-use Rattle.sends.specs.Plan.{plan-for, local-plan}
-use Rattle.sends.specs.Room.{extra-top}
+use Rattle.lists.specs.Basics.{not-true, not-false, lt-ltb, le-ltb, arith, needs}
+use Rattle.sends.specs.{Plan.{plan-for, local-plan}, Room.extra-top}
 use Rattle.memory.specs.View.{table-part}
 use Rattle.tickets.specs.Table.{found-entry}
-use borrow.Author.Tests.{not-true, not-false, lt-ltb, le-ltb}
-use native.Mathlib.Omega.{arith}
-use borrow.Author.Needs.{needs}
 use Rattle.sends.proofs.plan.plan_on.Statement.{statement}
 use Rattle.sends.proofs.plan.plan_on.Tie as tie
 

@@ -1,6 +1,5 @@
-use mathlib.Core.Path.{sym, ap}
+use Rattle.lists.specs.Basics.{sym, ap, needs}
 use Rattle.sends.specs.Ticket.{growth}
-use borrow.Author.Needs.{needs}
 use Rattle.sends.proofs.ticket.growth.Statement.{statement}
 use Rattle.sends.proofs.ticket.growth.Tie as tie
 

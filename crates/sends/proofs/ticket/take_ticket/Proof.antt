@@ -1,8 +1,6 @@
-use Rattle.sends.specs.InMemory.{ticket-found, ticket-new}
-use Rattle.sends.specs.Ticket.{to-table}
+use Rattle.lists.specs.Basics.{arith, needs}
+use Rattle.sends.specs.{InMemory.{ticket-found, ticket-new}, Ticket.to-table}
 use Rattle.protocol.specs.Sending.{local-entry}
-use native.Mathlib.Omega.{arith}
-use borrow.Author.Needs.{needs}
 use Rattle.sends.proofs.ticket.take_ticket.Statement.{statement}
 use Rattle.sends.proofs.ticket.take_ticket.Tie as tie
 

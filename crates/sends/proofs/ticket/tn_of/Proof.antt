@@ -1,6 +1,5 @@
-use mathlib.Core.Path.{sym, ap}
+use Rattle.lists.specs.Basics.{sym, ap, needs}
 use Rattle.sends.specs.Ticket.{tn-of}
-use borrow.Author.Needs.{needs}
 use Rattle.sends.proofs.ticket.tn_of.Statement.{statement}
 use Rattle.sends.proofs.ticket.tn_of.Tie as tie
 

@@ -1,5 +1,5 @@
+use Rattle.lists.specs.Basics.{not-true, not-false, le-leb, lt-leb}
 use Rattle.lists.specs.Questions.{first-no}
-use borrow.Author.Tests.{not-true, not-false, le-leb, lt-leb}
 use Rattle.sends.proofs.verdict.answer.Statement.{statement}
 use Rattle.sends.proofs.verdict.answer.Tie as tie
 

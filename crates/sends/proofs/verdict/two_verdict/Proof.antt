@@ -1,7 +1,5 @@
-use Rattle.sends.specs.Sends.{two-verdict}
-use Rattle.sends.specs.Room.{growth-top}
-use native.Mathlib.Omega.{arith}
-use borrow.Author.Needs.{needs}
+use Rattle.lists.specs.Basics.{arith, needs}
+use Rattle.sends.specs.{Sends.two-verdict, Room.growth-top}
 use Rattle.sends.proofs.verdict.two_verdict.Statement.{statement}
 use Rattle.sends.proofs.verdict.two_verdict.Tie as tie
 
