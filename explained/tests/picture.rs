@@ -1,9 +1,9 @@
-//! What a picture shows, and that nothing in it lies over something else.
+//! Nothing in a picture lies over something else.
 
 mod common;
 
+use common::svg::{attribute, number, said, shapes};
 use common::{drawn, explained, list, names};
-use explained::picture::{Drawing, MOST_ROWS};
 use reference::generator;
 use std::fmt;
 
@@ -30,27 +30,9 @@ impl fmt::Display for Area {
     }
 }
 
-/// The value of an attribute of a shape.
-fn attribute<'a>(shape: &'a str, name: &str) -> &'a str {
-    let start = format!(" {name}=\"");
-    let Some(at) = shape.find(&start) else {
-        return "";
-    };
-    let rest = &shape[at + start.len()..];
-    &rest[..rest.find('"').expect("a closing quote")]
-}
-
-fn number(shape: &str, name: &str) -> f64 {
-    attribute(shape, name).parse().expect("a number")
-}
-
 /// The place of a text, by the usual widths of its letters.
 fn text_area(shape: &str) -> Area {
-    let inner = &shape[shape.find('>').expect("an end") + 1..shape.rfind('<').expect("a tag")];
-    let inner = inner
-        .replace("&gt;", ">")
-        .replace("&lt;", "<")
-        .replace("&quot;", "\"");
+    let inner = said(shape);
     let class = attribute(shape, "class");
     let letter = match class {
         "title" => 12.0,
@@ -113,11 +95,6 @@ fn passes(way: &[(f64, f64)], area: &Area) -> bool {
             area.left < x && x < area.right && area.top < y && y < area.bottom
         })
     })
-}
-
-/// The shapes of a kind, one a line.
-fn shapes<'a>(picture: &'a str, tag: &'static str) -> impl Iterator<Item = &'a str> {
-    picture.lines().filter(move |line| line.starts_with(tag))
 }
 
 fn check(name: &str, picture: &str) {
@@ -220,117 +197,4 @@ fn the_widest_jobs() {
         seen += 1;
     }
     assert_eq!(seen, 8);
-}
-
-/// One shape a line, every tag closed, nothing fetched from elsewhere.
-#[test]
-fn self_contained() {
-    for seed in 0..80 {
-        let picture = drawn("<a> & \"b\"", &explained(&generator::list(seed, 200)).story);
-        assert_eq!(picture.matches("<svg").count(), 1);
-        for (open, close) in [("<text", "</text>"), ("<g", "</g>"), ("<title", "</title>")] {
-            assert_eq!(
-                picture.matches(open).count(),
-                picture.matches(close).count()
-            );
-        }
-        assert!(!picture.contains("href") && !picture.contains("<image"));
-        assert!(picture.contains("&lt;a&gt; &amp; &quot;b&quot;"));
-    }
-}
-
-fn example(name: &str) -> String {
-    drawn(name, &explained(&list(name)).story)
-}
-
-fn has(picture: &str, text: &str) {
-    let text = format!(">{text}<");
-    assert!(picture.contains(&text), "nowhere: {text}");
-}
-
-#[test]
-fn a_lost_run_says_why() {
-    let picture = example("06-crash-without-cover");
-    has(&picture, "crash of machine 1, no cover: machine 2, the");
-    has(&picture, "buddy, does not hold its copy");
-}
-
-#[test]
-fn copies_and_notes_stand_on_the_buddys_lane() {
-    let picture = example("04-checkpoint");
-    for text in ["copy of 1", "notes for 1: 1", "new copy of 1, 1 note out"] {
-        has(&picture, text);
-    }
-    let picture = example("06-crash-without-cover");
-    for text in ["copy of 1", "copy of 1 lost", "copy of 2 taken back"] {
-        has(&picture, text);
-    }
-}
-
-#[test]
-fn a_local_message_is_seen() {
-    has(&example("03-local-message"), "1→2 #1 here: TN 1");
-}
-
-#[test]
-fn a_packet_is_explained() {
-    let picture = example("01-plain-delivery");
-    let title =
-        "ASK 0→1 #1: the desk asks chare 1 for a ticket for 0→1 #1, from the desk to machine 1; \
-                 sent at frame 2, delivered at frame 4";
-    has(&picture, title);
-    let packets = shapes(&picture, "<path").count();
-    // The legend has some too, which need no words.
-    assert!(picture.matches("<g class=\"packet\"><title>").count() >= 2 * (packets - 7));
-}
-
-/// What repeats is folded: 272 frames were 11,902 pixels high.
-#[test]
-fn repeated_stretches_are_folded() {
-    let picture = example("11-full-window");
-    assert!(number(&picture, "height") < 3000.0);
-    has(&picture, "folded: 13 more rounds of 5 frames like");
-    has(&picture, "8-72");
-    let picture = example("14-full-wire");
-    assert!(number(&picture, "height") < 3000.0);
-    has(&picture, "folded: 14 more frames like the one above;");
-}
-
-/// Each page has the names of the lanes, and the size of a sheet.
-#[test]
-fn pages_have_heads() {
-    let story = explained(&list("11-full-window")).story;
-    let drawing = Drawing::new("a list", &story).expect("a picture");
-    let pages = drawing.pages();
-    assert_eq!(pages.len(), 2);
-    assert_eq!(drawing.whole().matches(">what happened<").count(), 2);
-    for (at, page) in pages.iter().enumerate() {
-        assert!(page.contains("width=\"210mm\" height=\"297mm\""));
-        let title = format!("(page {} of 2)", at + 1);
-        let head = page
-            .lines()
-            .find(|line| line.contains(&title))
-            .expect("a title");
-        let view = attribute(page, "viewBox").split(' ');
-        let view: Vec<f64> = view.map(|n| n.parse().expect("a number")).collect();
-        let y = number(head, "y");
-        assert!(
-            view[1] < y && y < view[1] + view[3],
-            "{title} is on another page"
-        );
-    }
-}
-
-#[test]
-fn a_list_too_long_to_draw_is_named_so() {
-    let story = explained(&generator::list(107, 5000)).story;
-    let error = Drawing::new("a list", &story).err().expect("too long");
-    assert!(
-        error.starts_with("too long to draw: 5000 frames, "),
-        "{error}"
-    );
-    assert!(
-        error.ends_with(&format!("a picture has at most {MOST_ROWS}")),
-        "{error}"
-    );
 }

@@ -4,6 +4,7 @@
 #![allow(dead_code)]
 
 pub mod run;
+pub mod svg;
 
 use explained::engine;
 use explained::picture::{Drawing, Story};
