@@ -195,7 +195,16 @@ fn names_that_are_not_utf_8() {
     );
     let (list, out) = (list.as_os_str(), out.as_os_str());
     let word = OsStr::new;
-    assert_eq!(run(&[word("play"), list]).0, 2);
+    let missing = format!(
+        "satuphir: {}: No such file or directory (os error 2)\n",
+        list.to_string_lossy()
+    );
+    for task in ["play", "explain"] {
+        assert_eq!(
+            run(&[word(task), list]),
+            (2, String::new(), missing.clone())
+        );
+    }
     fs::copy(example(), list).expect("a copy");
     for args in [
         &[word("play"), list][..],
@@ -203,7 +212,10 @@ fn names_that_are_not_utf_8() {
         &[word("picture"), list, out],
         &[word("page"), list, out],
     ] {
-        assert_eq!(run(args).0, 0, "{args:?}");
+        let _ = fs::remove_file(out);
+        let (status, _, error) = run(args);
+        assert_eq!((status, error.as_str()), (0, ""), "{args:?}");
+        assert_eq!(Path::new(out).is_file(), args.contains(&out), "{args:?}");
     }
     let (status, _, error) = run(&[OsStr::from_bytes(b"\xFF")]);
     assert_eq!(
@@ -232,6 +244,11 @@ fn lists_with_a_note() {
             note("1 line with #; a list in digits has no comments, and such a line gets 01 (a list in words may have them)"),
         ),
         (
+            b"1201 # a work\n1601 # a show\n",
+            "01\n01\n",
+            note("2 lines with #; a list in digits has no comments, and such a line gets 01 (a list in words may have them)"),
+        ),
+        (
             b"\x7FELF\x02\x01\x01\n\0\0\n",
             "01\n01\n",
             note("no line of this is a frame, in digits or in words: is it a list?"),
@@ -239,10 +256,11 @@ fn lists_with_a_note() {
         (b"1201\n1601\r\n1601\n", "02\n01\n02\n", String::new()),
         (b"work 1\r\nshow 1\r\n", "02\n02\n", String::new()),
     ] {
+        let (status, text, said) = fed(&["explain", "-"], list);
+        assert_eq!((status, said), (0, message.clone()));
+        assert_eq!(text.matches("  ->  ").count(), lines.lines().count());
         assert_eq!(fed(&["play", "-"], list), (0, lines.to_string(), message));
     }
-    let (_, _, error) = fed(&["explain", "-"], b"1201\r\n");
-    assert!(error.contains("CR LF"), "{error}");
 }
 
 /// No subcommand stumbles over an empty list, a binary file or CR LF: each says its word and goes on.
