@@ -141,10 +141,10 @@ fn the_reasons_in_readmes_table() {
         .find(|row| row.contains(&"`FF`".to_string()));
     let row = row.expect("a row").pop().expect("what happens");
     let told = [
-        ("machine 1 is catching up", "machine 1 is still catching up"),
+        ("machine 1 is catching up", "still catching up"),
         (
             "machine 1, the buddy, does not hold its copy",
-            "it has lost machine 2's copy",
+            "lost machine 2's copy",
         ),
     ];
     assert_eq!(given, told.map(|(reason, _)| reason));
