@@ -3,7 +3,7 @@
 mod common;
 
 use common::svg::{attribute, number, said, shapes};
-use common::{drawn, explained, list, names};
+use common::{drawn, explained, list, names, widest_lists};
 use reference::generator;
 use std::fmt;
 use std::sync::OnceLock;
@@ -109,13 +109,13 @@ fn pictures() -> &'static [(String, String)] {
             (name, picture)
         };
         let examples = names().into_iter().map(|name| (name.clone(), list(&name)));
-        let random = |seed, frames| (format!("seed {seed}"), generator::list(seed, frames));
-        let wide = (0..3000).map(|seed| random(seed, 120));
-        let wide = wide.filter(|(_, list)| list[..6].eq_ignore_ascii_case(b"01060C"));
-        let wide: Vec<_> = wide.take(8).collect();
+        let short = (0..80).map(|seed| (seed, generator::list(seed, 40)));
+        let wide: Vec<_> = widest_lists().take(8).collect();
         assert_eq!(wide.len(), 8);
-        let short = (0..80).map(|seed| random(seed, 40));
-        examples.chain(short).chain(wide).map(draw).collect()
+        let random = short
+            .chain(wide)
+            .map(|(seed, list)| (format!("seed {seed}"), list));
+        examples.chain(random).map(draw).collect()
     })
 }
 

@@ -3,7 +3,7 @@
 mod common;
 
 use common::svg::{attribute, number, place, places, said, shapes};
-use common::{drawn, explained, list};
+use common::{drawn, explained, list, widest_lists};
 use explained::picture::{Drawing, MOST_ROWS};
 use reference::generator;
 
@@ -189,21 +189,14 @@ fn view(page: &str) -> [f64; 2] {
 /// Each page is a sheet of A4, with its title and the names of columns and lanes; no row is cut.
 #[test]
 fn pages_have_heads() {
-    let wide = (0..3000).map(|seed| generator::list(seed, 120));
-    let wide = wide
-        .filter(|list| list[..6].eq_ignore_ascii_case(b"01060C"))
-        .next();
+    let (_, wide) = widest_lists().next().expect("a wide job");
     for (list, machines, size) in [
         (
             list("11-full-window"),
             2,
             "width=\"210mm\" height=\"297mm\"",
         ),
-        (
-            wide.expect("a wide job"),
-            6,
-            "width=\"297mm\" height=\"210mm\"",
-        ),
+        (wide, 6, "width=\"297mm\" height=\"210mm\""),
     ] {
         let drawing = Drawing::new("a list", &explained(&list).story).expect("a picture");
         let pages = drawing.pages();
