@@ -3,7 +3,7 @@
 use reference::answer::{Answer, Question};
 use reference::chare::worked_state;
 use reference::encode::put_line;
-use reference::frame::{parse, Frame};
+use reference::frame::{parse, Delivery, Frame};
 use reference::reader::answer_all;
 use reference::state::State;
 use std::fs;
@@ -328,11 +328,11 @@ fn frames_are_read_as_they_are_written() {
     }
     assert_eq!(
         parse(b"1102030401F4"),
-        Some(Frame::Deliver {
+        Some(Frame::Deliver(Delivery {
             kind: 2,
             sender: 3,
             receiver: 4,
             sn: 500
-        })
+        }))
     );
 }
