@@ -92,6 +92,16 @@ fn copies_and_notes_stand_on_the_buddys_lane() {
     }
 }
 
+/// A machine that holds notes but no copy, having crashed before, loses the notes: on its own lane.
+#[test]
+fn notes_without_a_copy_are_seen_to_go() {
+    let list = "010302020301010200010000\n1402\n1502\n1001000301\n110100010001\n110200010001\n\
+                110300010001\n1201\n110401020001\n1402\n";
+    let picture = drawn("a list", &explained(list.as_bytes()).story);
+    stands_on(&picture, "copy of 1 lost", 2);
+    stands_on(&picture, "1 note for 1 lost", 2);
+}
+
 /// On the lane of its machine, under the work that sends it.
 #[test]
 fn a_local_message_is_seen() {
