@@ -3,7 +3,6 @@
 use crate::names::{capital, count, packet};
 use crate::notation::{digits_of, one_line};
 use crate::play::{play, probe, Difference, Step};
-use crate::traffic::delivery;
 use crate::words::{crash, refusal, words};
 use reference::answer::Answer;
 use reference::frame::Frame;
@@ -105,7 +104,7 @@ pub fn packets(state: &State) -> Vec<Try> {
             continue;
         }
         seen.push(name);
-        tries.push(tried(state, delivery(name), |step| {
+        tries.push(tried(state, name.into(), |step| {
             let what = words(step);
             // The first line says that it arrives, the second what comes of it.
             what.get(1)

@@ -2,7 +2,7 @@
 
 use reference::frame::Frame;
 use reference::job::Job;
-use reference::wire::{Content, Kind, Name, Wire};
+use reference::wire::{Content, Name, Wire};
 use reference::world::destination;
 
 pub type Packet = (Name, Content);
@@ -27,23 +27,8 @@ impl Change {
 /// The packet that a delivery names, once its numbers are in range.
 pub fn named(frame: &Frame) -> Option<Name> {
     match *frame {
-        Frame::Deliver {
-            kind,
-            sender,
-            receiver,
-            sn,
-        } => Kind::from_byte(kind).map(|kind| Name::new(kind, sender, receiver, sn)),
+        Frame::Deliver(delivery) => delivery.name(),
         _ => None,
-    }
-}
-
-/// The frame that delivers a packet.
-pub fn delivery(name: Name) -> Frame {
-    Frame::Deliver {
-        kind: name.kind() as u8,
-        sender: name.sender(),
-        receiver: name.receiver(),
-        sn: name.sn(),
     }
 }
 
@@ -51,7 +36,7 @@ pub fn delivery(name: Name) -> Frame {
 pub fn change(job: &Job, frame: &Frame, before: &Wire, after: &Wire) -> Change {
     let mut change = Change::default();
     match *frame {
-        Frame::Deliver { .. } => change.taken = named(frame).and_then(|name| before.find(name)),
+        Frame::Deliver(_) => change.taken = named(frame).and_then(|name| before.find(name)),
         // A crash sends nothing, so what is not found again in its order is gone.
         Frame::Crash { .. } => {
             let mut kept = after.packets().peekable();

@@ -104,23 +104,31 @@ fn explain_gives_words() {
     said_nothing(&error);
 }
 
-/// Options may stand after the list.
 #[test]
 fn explain_gives_a_picture_too() {
-    let folder = fresh("explain-picture");
-    let (list_file, out) = (file(NAME), folder.join("out.svg"));
+    let out = fresh("explain-picture").join("out.svg");
     let out = out.to_str().expect("a name");
-    for args in [
-        ["explain", "--picture", out, &list_file],
-        ["explain", &list_file, "--picture", out],
-    ] {
+    let (status, said, error) = run(&["explain", "--picture", out, &file(NAME)]);
+    let report = explained(&list(NAME));
+    assert_eq!((status, said), (0, report.text));
+    said_nothing(&error);
+    assert!(fs::read_to_string(out).expect("a picture") == drawn(NAME, &report.story));
+}
+
+/// Options may stand after the list, and before the subcommand.
+#[test]
+fn options_stand_anywhere() {
+    let out = fresh("options").join("out.svg");
+    let out = out.to_str().expect("a name");
+    let list = file(NAME);
+    let made = |args: &[&str]| {
         let _ = fs::remove_file(out);
-        let (status, said, error) = run(&args);
-        let report = explained(&list(NAME));
-        assert_eq!((status, said), (0, report.text));
-        said_nothing(&error);
-        assert!(fs::read_to_string(out).expect("a picture") == drawn(NAME, &report.story));
-    }
+        (run(args), fs::read_to_string(out).ok())
+    };
+    let first = made(&["explain", "--picture", out, &list]);
+    assert!(first.1.is_some());
+    assert_eq!(made(&["explain", &list, "--picture", out]), first);
+    assert_eq!(made(&["--picture", out, "explain", &list]), first);
 }
 
 #[test]

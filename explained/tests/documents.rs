@@ -125,6 +125,56 @@ fn the_table_of_readme() {
     }
 }
 
+/// The row of the crash without cover has each reason that `explain` gives.
+#[test]
+fn the_reasons_in_readmes_table() {
+    let rule_book = root().join("examples/00-the-rule-books-sitting.in");
+    let (_, text, _) = run(&["explain".as_ref(), rule_book.as_os_str()]);
+    let text = text.replace("\n      ", " ");
+    let (_, given) = text.split_once("without cover: ").expect("a crash");
+    let given: Vec<&str> = given[..given.find('.').expect("an end")]
+        .split("; ")
+        .collect();
+    let readme = document("README.md");
+    let row = rows(&readme)
+        .into_iter()
+        .find(|row| row.contains(&"`FF`".to_string()));
+    let row = row.expect("a row").pop().expect("what happens");
+    let told = [
+        ("machine 1 is catching up", "still catching up"),
+        (
+            "machine 1, the buddy, does not hold its copy",
+            "lost machine 2's copy",
+        ),
+    ];
+    assert_eq!(given, told.map(|(reason, _)| reason));
+    for (_, words) in told {
+        assert!(row.contains(words), "README does not say: {words}");
+    }
+}
+
+/// A document's words, wherever its lines end.
+fn flowing(name: &str) -> String {
+    let text = document(name);
+    let words = text.split_whitespace().filter(|word| *word != "#");
+    words.collect::<Vec<_>>().join(" ")
+}
+
+/// What the bare program cannot do is said where it is named.
+#[test]
+fn what_the_bare_program_cannot_do() {
+    for (name, words) in [
+        (
+            "README.md",
+            "on a full disk, a closed input or a directory as input `sitting` ends with status 0 and without a word. \
+             `tools/satuphir play` reads and writes by itself and notices all three.",
+        ),
+        ("tools/sitting.sh", "The program cannot say that reading or writing failed"),
+    ] {
+        assert!(flowing(name).contains(words), "{name} does not say: {words}");
+    }
+}
+
 #[test]
 fn the_frames_of_the_rules() {
     let rules = document("docs/RULES.md");
@@ -160,8 +210,7 @@ fn the_edits_of_readme() {
         };
         files.map(count).sum()
     }
-    let readme = document("README.md");
-    let readme = readme.split_whitespace().collect::<Vec<_>>().join(" ");
+    let readme = flowing("README.md");
     for (folder, words) in [
         ("crates", "must-fail edits and every program"),
         ("must-fail", "must-fail edits more"),

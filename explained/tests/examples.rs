@@ -69,3 +69,21 @@ fn explanations() {
         );
     }
 }
+
+/// The script that makes them says where the lines come from, and takes them there; the gate compares them with the engine's.
+#[test]
+fn where_the_lines_come_from() {
+    let read = |name: &str| fs::read_to_string(folder().join(name)).expect("a script");
+    let script = read("make.sh");
+    let words = script.split_whitespace().filter(|word| *word != "#");
+    let script = words.collect::<Vec<_>>().join(" ");
+    for words in [
+        "The lines come from the second implementation, never from the engine that they are compared with",
+        "the gate plays each list with the proved engine too (explained/tests/examples.rs)",
+        "run reference --bin sitting < \"$list\" > \"$name.out\"",
+    ] {
+        assert!(script.contains(words), "make.sh does not say: {words}");
+    }
+    let gate = read("../.ci/run");
+    assert!(gate.contains("cargo test --offline --quiet --manifest-path explained/Cargo.toml\n"));
+}

@@ -1,11 +1,12 @@
-//! What a picture shows, and that nothing in it lies over something else.
+//! Nothing in a picture lies over something else.
 
 mod common;
 
-use common::{drawn, explained, list, names};
-use explained::picture::{Drawing, MOST_ROWS};
+use common::svg::{attribute, number, said, shapes};
+use common::{drawn, explained, list, names, widest_lists};
 use reference::generator;
 use std::fmt;
+use std::sync::OnceLock;
 
 struct Area {
     what: String,
@@ -30,27 +31,9 @@ impl fmt::Display for Area {
     }
 }
 
-/// The value of an attribute of a shape.
-fn attribute<'a>(shape: &'a str, name: &str) -> &'a str {
-    let start = format!(" {name}=\"");
-    let Some(at) = shape.find(&start) else {
-        return "";
-    };
-    let rest = &shape[at + start.len()..];
-    &rest[..rest.find('"').expect("a closing quote")]
-}
-
-fn number(shape: &str, name: &str) -> f64 {
-    attribute(shape, name).parse().expect("a number")
-}
-
 /// The place of a text, by the usual widths of its letters.
 fn text_area(shape: &str) -> Area {
-    let inner = &shape[shape.find('>').expect("an end") + 1..shape.rfind('<').expect("a tag")];
-    let inner = inner
-        .replace("&gt;", ">")
-        .replace("&lt;", "<")
-        .replace("&quot;", "\"");
+    let inner = said(shape);
     let class = attribute(shape, "class");
     let letter = match class {
         "title" => 12.0,
@@ -76,7 +59,7 @@ fn text_area(shape: &str) -> Area {
 }
 
 /// Marks are rectangles with a frame and round corners.
-fn pill_area(shape: &str) -> Option<Area> {
+fn mark_area(shape: &str) -> Option<Area> {
     if number(shape, "rx") == 0.0 || attribute(shape, "stroke").is_empty() {
         return None;
     }
@@ -90,8 +73,10 @@ fn pill_area(shape: &str) -> Option<Area> {
     })
 }
 
+type Way = Vec<(f64, f64)>;
+
 /// The corners of a packet's way.
-fn way(shape: &str) -> Vec<(f64, f64)> {
+fn way(shape: &str) -> Way {
     let numbers = attribute(shape, "d").replace(['M', 'L', 'Q'], " ");
     let numbers: Vec<f64> = numbers
         .split_whitespace()
@@ -115,222 +100,150 @@ fn passes(way: &[(f64, f64)], area: &Area) -> bool {
     })
 }
 
-/// The shapes of a kind, one a line.
-fn shapes<'a>(picture: &'a str, tag: &'static str) -> impl Iterator<Item = &'a str> {
-    picture.lines().filter(move |line| line.starts_with(tag))
-}
-
-fn check(name: &str, picture: &str) {
-    let texts: Vec<Area> = shapes(picture, "<text").map(text_area).collect();
-    let pills: Vec<Area> = shapes(picture, "<rect x").filter_map(pill_area).collect();
-    for (at, text) in texts.iter().enumerate() {
-        for other in &texts[at + 1..] {
-            assert!(!text.meets(other), "{name}: {text} meets {other}");
-        }
-        // A mark has its own text inside and no other.
-        let marks = pills.iter().filter(|pill| text.meets(pill));
-        for pill in marks {
-            let inside = pill.left < text.left && text.right < pill.right;
-            assert!(inside, "{name}: {text} meets {pill}");
-        }
-    }
-    for (at, pill) in pills.iter().enumerate() {
-        for other in &pills[at + 1..] {
-            assert!(!pill.meets(other), "{name}: {pill} meets {other}");
-        }
-    }
-    let ways: Vec<Vec<(f64, f64)>> = shapes(picture, "<path").map(way).collect();
-    for way in &ways {
-        for pill in &pills {
-            assert!(!passes(way, pill), "{name}: {way:?} meets {pill}");
-        }
-    }
-    // A label stands over its own arrow, which is not crossed by it, and no other arrow crosses it.
-    for label in shapes(picture, "<text").filter(|t| attribute(t, "class") == "halo") {
-        let area = text_area(label);
-        for way in &ways {
-            assert!(!passes(way, &area), "{name}: {way:?} meets {area}");
-        }
-        let right = attribute(label, "text-anchor") == "start";
-        let tail = number(label, "y") + 6.0;
-        let own = |way: &&Vec<(f64, f64)>| {
-            way[0].1 == tail && (way[0].0 - number(label, "x")).abs() < 12.0
+/// The pictures that are looked at, with their names: all examples, random lists, and six machines with twelve chares over several pages.
+fn pictures() -> &'static [(String, String)] {
+    static PICTURES: OnceLock<Vec<(String, String)>> = OnceLock::new();
+    PICTURES.get_or_init(|| {
+        let draw = |(name, list): (String, Vec<u8>)| {
+            let picture = drawn(&name, &explained(&list).story);
+            (name, picture)
         };
-        let own = ways
-            .iter()
-            .find(own)
-            .unwrap_or_else(|| panic!("{name}: {area} has no arrow"));
-        assert_eq!(
-            own[1].0 > own[0].0,
-            right,
-            "{name}: {area} is not on its arrow's side"
-        );
-    }
-    check_bends(name, &ways);
+        let examples = names().into_iter().map(|name| (name.clone(), list(&name)));
+        let short = (0..80).map(|seed| (seed, generator::list(seed, 40)));
+        let wide: Vec<_> = widest_lists().take(8).collect();
+        assert_eq!(wide.len(), 8);
+        let random = short
+            .chain(wide)
+            .map(|(seed, list)| (format!("seed {seed}"), list));
+        examples.chain(random).map(draw).collect()
+    })
 }
 
-/// Where packets go down, none lies on another.
-fn check_bends(name: &str, ways: &[Vec<(f64, f64)>]) {
-    let mut downs: Vec<(f64, f64, f64)> = Vec::new();
-    for way in ways {
-        for pair in way.windows(2) {
-            let [(x1, y1), (x2, y2)] = [pair[0], pair[1]];
-            if x1 == x2 && (y1 - y2).abs() > 1.0 {
-                downs.push((x1, y1.min(y2), y1.max(y2)));
+fn texts(picture: &str) -> Vec<Area> {
+    shapes(picture, "<text").map(text_area).collect()
+}
+
+fn marks(picture: &str) -> Vec<Area> {
+    shapes(picture, "<rect x").filter_map(mark_area).collect()
+}
+
+fn ways(picture: &str) -> Vec<Way> {
+    shapes(picture, "<path").map(way).collect()
+}
+
+/// The labels of packets.
+fn labels(picture: &str) -> impl Iterator<Item = &str> {
+    shapes(picture, "<text").filter(|text| attribute(text, "class") == "halo")
+}
+
+fn lie_apart(name: &str, areas: &[Area]) {
+    for (at, area) in areas.iter().enumerate() {
+        for other in &areas[at + 1..] {
+            assert!(!area.meets(other), "{name}: {area} meets {other}");
+        }
+    }
+}
+
+#[test]
+fn texts_and_marks_lie_apart() {
+    for (name, picture) in pictures() {
+        let (texts, marks) = (texts(picture), marks(picture));
+        lie_apart(name, &texts);
+        lie_apart(name, &marks);
+        // A mark has its own text inside and no other.
+        for text in &texts {
+            for mark in marks.iter().filter(|mark| text.meets(mark)) {
+                let inside = mark.left < text.left && text.right < mark.right;
+                assert!(inside, "{name}: {text} meets {mark}");
             }
         }
     }
-    for (at, one) in downs.iter().enumerate() {
-        for two in downs[at + 1..].iter().filter(|two| two.0 == one.0) {
-            // Pieces of one way touch at their ends.
-            assert!(
-                one.2 <= two.1 || two.2 <= one.1,
-                "{name}: {one:?} lies on {two:?}"
-            );
+}
+
+#[test]
+fn no_arrow_crosses_a_mark() {
+    for (name, picture) in pictures() {
+        let marks = marks(picture);
+        for way in ways(picture) {
+            for mark in &marks {
+                assert!(!passes(&way, mark), "{name}: {way:?} meets {mark}");
+            }
         }
     }
 }
 
 #[test]
-fn examples() {
-    for name in names() {
-        check(&name, &drawn(&name, &explained(&list(&name)).story));
+fn no_arrow_crosses_a_label() {
+    for (name, picture) in pictures() {
+        let ways = ways(picture);
+        for label in labels(picture).map(text_area) {
+            for way in &ways {
+                assert!(!passes(way, &label), "{name}: {way:?} meets {label}");
+            }
+        }
     }
 }
 
+/// A label stands over the beginning of its arrow, on the side to which that goes.
 #[test]
-fn random_lists() {
-    for seed in 0..80 {
-        let story = explained(&generator::list(seed, 40)).story;
-        check(&format!("seed {seed}"), &drawn("a random list", &story));
-    }
-}
-
-/// Six machines and twelve chares, over several pages.
-#[test]
-fn the_widest_jobs() {
-    let wide = (0..3000).map(|seed| (seed, generator::list(seed, 120)));
-    let wide = wide.filter(|(_, list)| list[..6].eq_ignore_ascii_case(b"01060C"));
-    let mut seen = 0;
-    for (seed, list) in wide.take(8) {
-        check(
-            &format!("seed {seed}"),
-            &drawn("a wide list", &explained(&list).story),
-        );
-        seen += 1;
-    }
-    assert_eq!(seen, 8);
-}
-
-/// One shape a line, every tag closed, nothing fetched from elsewhere.
-#[test]
-fn self_contained() {
-    for seed in 0..80 {
-        let picture = drawn("<a> & \"b\"", &explained(&generator::list(seed, 200)).story);
-        assert_eq!(picture.matches("<svg").count(), 1);
-        for (open, close) in [("<text", "</text>"), ("<g", "</g>"), ("<title", "</title>")] {
+fn labels_stand_on_the_side_of_their_arrows() {
+    for (name, picture) in pictures() {
+        let ways = ways(picture);
+        for label in labels(picture) {
+            let (x, tail) = (number(label, "x"), number(label, "y") + 6.0);
+            let own = |way: &&Way| way[0].1 == tail && (way[0].0 - x).abs() < 12.0;
+            let label_goes_right = attribute(label, "text-anchor") == "start";
+            let label = text_area(label);
+            let own = ways.iter().find(own);
+            let own = own.unwrap_or_else(|| panic!("{name}: {label} has no arrow"));
+            let goes_right = own[1].0 > own[0].0;
             assert_eq!(
-                picture.matches(open).count(),
-                picture.matches(close).count()
+                goes_right, label_goes_right,
+                "{name}: {label} is not on its arrow's side"
             );
         }
-        assert!(!picture.contains("href") && !picture.contains("<image"));
-        assert!(picture.contains("&lt;a&gt; &amp; &quot;b&quot;"));
     }
 }
 
-fn example(name: &str) -> String {
-    drawn(name, &explained(&list(name)).story)
+/// Where a way bends, and from where to where it goes down.
+struct Bends {
+    at: Vec<f64>,
+    top: f64,
+    bottom: f64,
 }
 
-fn has(picture: &str, text: &str) {
-    let text = format!(">{text}<");
-    assert!(picture.contains(&text), "nowhere: {text}");
+fn bends(shape: &str) -> Option<Bends> {
+    let corners = attribute(shape, "d").split('Q').skip(1);
+    let corners = corners.map(|corner| {
+        let mut numbers = corner.split(' ').map(|n| n.parse().expect("a number"));
+        (numbers.next().expect("x"), numbers.next().expect("y"))
+    });
+    let corners: Way = corners.collect();
+    Some(Bends {
+        top: corners.first()?.1,
+        bottom: way(shape).last()?.1,
+        at: corners.into_iter().map(|(x, _)| x).collect(),
+    })
 }
 
+/// Packets that are under way at the same time bend at different places.
 #[test]
-fn a_lost_run_says_why() {
-    let picture = example("06-crash-without-cover");
-    has(&picture, "crash of machine 1, no cover: machine 2, the");
-    has(&picture, "buddy, does not hold its copy");
-}
-
-#[test]
-fn copies_and_notes_stand_on_the_buddys_lane() {
-    let picture = example("04-checkpoint");
-    for text in ["copy of 1", "notes for 1: 1", "new copy of 1, 1 note out"] {
-        has(&picture, text);
+fn bends_are_spread() {
+    let mut count = 0;
+    for (name, picture) in pictures() {
+        let all: Vec<Bends> = shapes(picture, "<path").filter_map(bends).collect();
+        count += all.len();
+        for (at, one) in all.iter().enumerate() {
+            let at_once = |two: &&Bends| one.top < two.bottom && two.top < one.bottom;
+            for two in all[at + 1..].iter().filter(at_once) {
+                let same = one.at.iter().find(|x| two.at.contains(x));
+                assert_eq!(
+                    same, None,
+                    "{name}: from {} and from {} down",
+                    one.top, two.top
+                );
+            }
+        }
     }
-    let picture = example("06-crash-without-cover");
-    for text in ["copy of 1", "copy of 1 lost", "copy of 2 taken back"] {
-        has(&picture, text);
-    }
-}
-
-#[test]
-fn a_local_message_is_seen() {
-    has(&example("03-local-message"), "1→2 #1 here: TN 1");
-}
-
-#[test]
-fn a_packet_is_explained() {
-    let picture = example("01-plain-delivery");
-    let title =
-        "ASK 0→1 #1: the desk asks chare 1 for a ticket for 0→1 #1, from the desk to machine 1; \
-                 sent at frame 2, delivered at frame 4";
-    has(&picture, title);
-    let packets = shapes(&picture, "<path").count();
-    // The legend has some too, which need no words.
-    assert!(picture.matches("<g class=\"packet\"><title>").count() >= 2 * (packets - 7));
-}
-
-/// What repeats is folded: 272 frames were 11,902 pixels high.
-#[test]
-fn repeated_stretches_are_folded() {
-    let picture = example("11-full-window");
-    assert!(number(&picture, "height") < 3000.0);
-    has(&picture, "folded: 13 more rounds of 5 frames like");
-    has(&picture, "8-72");
-    let picture = example("14-full-wire");
-    assert!(number(&picture, "height") < 3000.0);
-    has(&picture, "folded: 14 more frames like the one above;");
-}
-
-/// Each page has the names of the lanes, and the size of a sheet.
-#[test]
-fn pages_have_heads() {
-    let story = explained(&list("11-full-window")).story;
-    let drawing = Drawing::new("a list", &story).expect("a picture");
-    let pages = drawing.pages();
-    assert_eq!(pages.len(), 2);
-    assert_eq!(drawing.whole().matches(">what happened<").count(), 2);
-    for (at, page) in pages.iter().enumerate() {
-        assert!(page.contains("width=\"210mm\" height=\"297mm\""));
-        let title = format!("(page {} of 2)", at + 1);
-        let head = page
-            .lines()
-            .find(|line| line.contains(&title))
-            .expect("a title");
-        let view = attribute(page, "viewBox").split(' ');
-        let view: Vec<f64> = view.map(|n| n.parse().expect("a number")).collect();
-        let y = number(head, "y");
-        assert!(
-            view[1] < y && y < view[1] + view[3],
-            "{title} is on another page"
-        );
-    }
-}
-
-#[test]
-fn a_list_too_long_to_draw_is_named_so() {
-    let story = explained(&generator::list(107, 5000)).story;
-    let error = Drawing::new("a list", &story).err().expect("too long");
-    assert!(
-        error.starts_with("too long to draw: 5000 frames, "),
-        "{error}"
-    );
-    assert!(
-        error.ends_with(&format!("a picture has at most {MOST_ROWS}")),
-        "{error}"
-    );
+    assert!(count > 500, "{count} bends");
 }

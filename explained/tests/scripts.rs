@@ -147,32 +147,27 @@ fn redirected(words: &str) -> (i32, String, String) {
     result(run.output().expect("a run"))
 }
 
-/// A closed input is no empty list, a closed output no lines that were read.
+/// What the bare program cannot say: a closed input or a directory is no empty list, on a full disk or a closed output no line is there.
 #[test]
-fn a_closed_input_or_output() {
-    for (words, status, out, error) in [
+fn play_notices_what_cannot_be_read_or_written() {
+    let list = "15-buddy-before.in";
+    for (words, error) in [
+        ("play - <&-", "standard input: it is closed"),
+        ("play - < .", "standard input: Is a directory (os error 21)"),
+        ("play .", ".: Is a directory (os error 21)"),
         (
-            "play - <&-",
-            2,
-            "",
-            "satuphir: standard input: it is closed\n",
+            "play LIST > /dev/full",
+            "standard output: No space left on device (os error 28)",
         ),
-        (
-            "play 15-buddy-before.in >&-",
-            2,
-            "",
-            "satuphir: standard output: it is closed\n",
-        ),
-        ("play 15-buddy-before.in <&-", 0, "", ""),
-        ("play - < 15-buddy-before.in", 0, "", ""),
+        ("play LIST >&-", "standard output: it is closed"),
     ] {
-        let (got, said, complaint) = redirected(words);
-        assert_eq!((got, complaint.as_str()), (status, error), "{words}");
-        let lines = fs::read_to_string(folder().join("15-buddy-before.out")).expect("lines");
-        assert_eq!(
-            said,
-            if status == 0 { lines.as_str() } else { out },
-            "{words}"
-        );
+        let want = (2, String::new(), format!("satuphir: {error}\n"));
+        assert_eq!(redirected(&words.replace("LIST", list)), want, "{words}");
+    }
+    // An input that is not asked for may be closed.
+    let lines = fs::read_to_string(folder().join("15-buddy-before.out")).expect("lines");
+    for words in ["play LIST <&-", "play - < LIST"] {
+        let want = (0, lines.clone(), String::new());
+        assert_eq!(redirected(&words.replace("LIST", list)), want, "{words}");
     }
 }

@@ -3,7 +3,7 @@
 mod common;
 
 use common::folder;
-use common::run::{fed, fresh, result, run, satuphir};
+use common::run::{fed, fresh, result, run, satuphir, with_list};
 use std::ffi::OsStr;
 use std::fs::{self, File};
 use std::os::unix::ffi::OsStrExt;
@@ -66,22 +66,6 @@ fn bad_calls() {
         assert_eq!((status, out.as_str()), (2, ""), "{args:?}");
         assert_eq!(error, format!("satuphir: {message}\n{HINT}"), "{args:?}");
     }
-}
-
-/// Each subcommand with a list of this name.
-fn with_list(list: &OsStr) -> Vec<Vec<&OsStr>> {
-    let out = Path::new("/dev/null").as_os_str();
-    let word = OsStr::new;
-    vec![
-        vec![word("play"), list],
-        vec![word("explain"), list],
-        vec![word("picture"), list, out],
-        vec![word("page"), list, out],
-        vec![word("state"), word("1"), list],
-        vec![word("next"), list],
-        vec![word("encode"), list],
-        vec![word("decode"), list],
-    ]
 }
 
 #[test]
@@ -171,9 +155,9 @@ fn a_result_onto_its_own_list() {
     for out in [&list, &other] {
         let (list, out) = (list.as_os_str(), out.as_os_str());
         for args in [
-            &[word("picture"), list, out][..],
+            &[word("explain"), word("--picture"), out, list][..],
+            &[word("picture"), list, out],
             &[word("page"), list, out],
-            &[word("explain"), list, word("--picture"), out],
         ] {
             let (status, _, error) = run(args);
             let message = format!(
@@ -195,16 +179,25 @@ fn names_that_are_not_utf_8() {
     );
     let (list, out) = (list.as_os_str(), out.as_os_str());
     let word = OsStr::new;
-    assert_eq!(run(&[word("play"), list]).0, 2);
     fs::copy(example(), list).expect("a copy");
     for args in [
-        &[word("play"), list][..],
-        &[word("explain"), list, word("--picture"), out],
+        &[word("explain"), word("--picture"), out, list][..],
+        &[word("play"), list],
         &[word("picture"), list, out],
         &[word("page"), list, out],
     ] {
-        assert_eq!(run(args).0, 0, "{args:?}");
+        let _ = fs::remove_file(out);
+        let (status, _, error) = run(args);
+        assert_eq!((status, error.as_str()), (0, ""), "{args:?}");
+        assert_eq!(Path::new(out).is_file(), args.contains(&out), "{args:?}");
     }
+    fs::remove_file(list).expect("a list");
+    let missing = format!(
+        "satuphir: {}: No such file or directory (os error 2)\n",
+        list.to_string_lossy()
+    );
+    let (status, out, error) = run(&[word("explain"), list]);
+    assert_eq!((status, out.as_str(), error), (2, "", missing));
     let (status, _, error) = run(&[OsStr::from_bytes(b"\xFF")]);
     assert_eq!(
         (status, error),
@@ -213,74 +206,6 @@ fn names_that_are_not_utf_8() {
             format!("satuphir: there is no subcommand \"\u{FFFD}\"\n{HINT}")
         )
     );
-}
-
-/// Lists that are read, but can hardly be meant so: a note, and the lines.
-#[test]
-fn lists_with_a_note() {
-    let note = |text: &str| format!("satuphir: note: {text}\n");
-    for (list, lines, message) in [
-        (&b""[..], "", note("the list is empty: no frame, no line")),
-        (
-            b"1201\r\n1601\r\n",
-            "01\n01\n",
-            note("2 of 2 lines end in CR LF; in digits a line ends in LF alone, and the CR makes it 01 (`tr -d '\\r'` takes it away)"),
-        ),
-        (
-            b"# a list\n1201\n",
-            "01\n02\n",
-            note("1 line with #; a list in digits has no comments, and such a line gets 01 (a list in words may have them)"),
-        ),
-        (
-            b"\x7FELF\x02\x01\x01\n\0\0\n",
-            "01\n01\n",
-            note("no line of this is a frame, in digits or in words: is it a list?"),
-        ),
-        (b"1201\n1601\r\n1601\n", "02\n01\n02\n", String::new()),
-        (b"work 1\r\nshow 1\r\n", "02\n02\n", String::new()),
-    ] {
-        assert_eq!(fed(&["play", "-"], list), (0, lines.to_string(), message));
-    }
-    let (_, _, error) = fed(&["explain", "-"], b"1201\r\n");
-    assert!(error.contains("CR LF"), "{error}");
-}
-
-/// No subcommand stumbles over an empty list, a binary file or CR LF: each says its word and goes on.
-#[test]
-fn odd_lists_in_every_subcommand() {
-    let folder = fresh("odd");
-    for (name, bytes, word) in [
-        ("empty", &b""[..], "the list is empty"),
-        (
-            "binary",
-            b"\x7FELF\x02\0\n\0\xFF\n",
-            "no line of this is a frame",
-        ),
-        ("returns", b"1201\r\n1601\r\n", "2 of 2 lines end in CR LF"),
-    ] {
-        let list = folder.join(name);
-        fs::write(&list, bytes).expect("a list");
-        for args in with_list(list.as_os_str()) {
-            let (status, out, error) = run(&args);
-            let task = args[0].to_string_lossy();
-            // An empty list has no frame 1.
-            if task == "state" && name == "empty" {
-                assert_eq!((status, out.as_str()), (2, ""));
-                assert!(
-                    error.contains("there is no frame 1: the list has 0 frames"),
-                    "{error}"
-                );
-                continue;
-            }
-            assert_eq!(status, 0, "{args:?}: {error}");
-            let silent = task == "encode" || task == "decode";
-            assert_eq!(
-                error.starts_with(&format!("satuphir: note: {word}")),
-                !silent,
-                "{args:?}: {error}"
-            );
-        }
-    }
 }
 
 #[test]

@@ -4,7 +4,7 @@ use crate::answer::Answer;
 use crate::frame::Frame;
 use crate::job::ix;
 use crate::state::State;
-use crate::wire::{Content, Kind, Name};
+use crate::wire::Content;
 use crate::world::Phase;
 use std::fmt;
 
@@ -106,16 +106,13 @@ impl Census {
         };
         let Some(job) = &state.job else { return before };
         match *frame {
-            Frame::Deliver {
-                kind,
-                sender,
-                receiver,
-                sn,
-            } if job.has_chare(receiver) && sender <= job.chare_count() => {
-                let Some(kind) = Kind::from_byte(kind) else {
+            Frame::Deliver(delivery)
+                if job.has_chare(delivery.receiver) && delivery.sender <= job.chare_count() =>
+            {
+                let Some(name) = delivery.name() else {
                     return before;
                 };
-                let name = Name::new(kind, sender, receiver, sn);
+                let (sender, receiver, sn) = (name.sender(), name.receiver(), name.sn());
                 let found = world.wire.find(name);
                 before.content = found.map(|at| world.wire.content(at));
                 before.wire = world.wire.len();
@@ -159,7 +156,7 @@ impl Census {
                 Phase::Up => {}
             },
             (_, &Frame::Restart { machine }) => self.restarted(machine, state),
-            (_, &Frame::Deliver { receiver, .. }) => self.delivered(before, receiver, state),
+            (_, Frame::Deliver(delivery)) => self.delivered(before, delivery.receiver, state),
             (_, &Frame::Work { chare }) => self.worked(before, chare, state),
             _ => {}
         }
@@ -171,8 +168,8 @@ impl Census {
             (8, _) => self.add(Event::AskWindow),
             (9, Frame::Work { .. }) => self.add(Event::WorkLog),
             (10, Frame::Work { .. }) => self.add(Event::WorkTable),
-            (10, Frame::Deliver { kind: 1, .. }) => self.add(Event::AskTable),
-            (10, Frame::Deliver { .. }) => self.add(Event::NoteListFull),
+            (10, Frame::Deliver(delivery)) if delivery.kind == 1 => self.add(Event::AskTable),
+            (10, Frame::Deliver(_)) => self.add(Event::NoteListFull),
             (10, Frame::Restart { .. }) => self.add(Event::RestartTable),
             (11, Frame::Work { .. }) => self.add(Event::WorkWire),
             (11, Frame::Restart { .. }) => self.add(Event::RestartWire),

@@ -10,15 +10,6 @@ use crate::state::State;
 use crate::wire::{Kind, Name};
 use crate::world::{destination, World};
 
-fn delivery(name: Name) -> Frame {
-    Frame::Deliver {
-        kind: name.kind() as u8,
-        sender: name.sender(),
-        receiver: name.receiver(),
-        sn: name.sn(),
-    }
-}
-
 impl Generator {
     pub(crate) fn inject(&mut self, job: &Job, state: &State) -> Frame {
         // A full desk log mostly asks for a checkpoint of those it writes to.
@@ -72,7 +63,7 @@ impl Generator {
     /// A delivery or a work, if there is any to make.
     fn onward(&mut self, job: &Job, state: &State) -> Frame {
         match self.packet(job, state) {
-            Some(name) if !self.rng.one_in(3) => delivery(name),
+            Some(name) if !self.rng.one_in(3) => name.into(),
             _ => self.work(job, state),
         }
     }
@@ -80,7 +71,7 @@ impl Generator {
     pub(crate) fn deliver(&mut self, job: &Job, state: &State) -> Frame {
         self.hold(state);
         match self.packet(job, state) {
-            Some(name) => delivery(name),
+            Some(name) => name.into(),
             // Nothing to deliver: work, or start something new.
             None if workable(job, &state.world).next().is_some() => self.work(job, state),
             None if state.world.desk.log.0.is_full() => self.idle(job, state),
@@ -106,7 +97,7 @@ impl Generator {
             world.is_up(destination(job, name)) && held != Some(name) && !is_refused(world, name)
         };
         match all.find(|&name| leads_on(name)) {
-            Some(name) => delivery(name),
+            Some(name) => name.into(),
             None if world.desk.log.0.is_full() || self.load_left(job, state) == 0 => {
                 self.checkpoint(job, state)
             }
@@ -207,7 +198,7 @@ impl Generator {
             return Frame::Work { chare };
         }
         match self.packet(job, state) {
-            Some(name) => delivery(name),
+            Some(name) => name.into(),
             None => self.idle(job, state),
         }
     }

@@ -10,14 +10,9 @@ pub fn bytes(frame: &Frame) -> Vec<u8> {
             let [high, low] = value.to_be_bytes();
             vec![0x10, chare, high, low, hops]
         }
-        Frame::Deliver {
-            kind,
-            sender,
-            receiver,
-            sn,
-        } => {
-            let [high, low] = sn.to_be_bytes();
-            vec![0x11, kind, sender, receiver, high, low]
+        Frame::Deliver(d) => {
+            let [high, low] = d.sn.to_be_bytes();
+            vec![0x11, d.kind, d.sender, d.receiver, high, low]
         }
         Frame::Work { chare } => vec![0x12, chare],
         Frame::Checkpoint { machine } => vec![0x13, machine],

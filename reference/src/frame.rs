@@ -1,37 +1,48 @@
 //! Reading a frame from a line of hexadecimal digits.
 
 use crate::limits::{MAX_CHARES, MAX_MACHINES};
+use crate::wire::{Kind, Name};
 
 /// A well-formed frame; its numbers may still be out of range.
 #[derive(Clone, Copy, Debug, PartialEq, Eq)]
 pub enum Frame {
     Job(Draft),
-    Inject {
-        chare: u8,
-        value: u16,
-        hops: u8,
-    },
-    Deliver {
-        kind: u8,
-        sender: u8,
-        receiver: u8,
-        sn: u16,
-    },
-    Work {
-        chare: u8,
-    },
-    Checkpoint {
-        machine: u8,
-    },
-    Crash {
-        machine: u8,
-    },
-    Restart {
-        machine: u8,
-    },
-    Show {
-        chare: u8,
-    },
+    Inject { chare: u8, value: u16, hops: u8 },
+    Deliver(Delivery),
+    Work { chare: u8 },
+    Checkpoint { machine: u8 },
+    Crash { machine: u8 },
+    Restart { machine: u8 },
+    Show { chare: u8 },
+}
+
+/// By these numbers a delivery names its packet.
+#[derive(Clone, Copy, Debug, PartialEq, Eq)]
+pub struct Delivery {
+    pub kind: u8,
+    pub sender: u8,
+    pub receiver: u8,
+    pub sn: u16,
+}
+
+impl Delivery {
+    /// The packet's name; none if there is no such kind. The other numbers must be in range.
+    pub fn name(self) -> Option<Name> {
+        let kind = Kind::from_byte(self.kind)?;
+        Some(Name::new(kind, self.sender, self.receiver, self.sn))
+    }
+}
+
+impl From<Name> for Frame {
+    /// The frame that delivers a packet.
+    fn from(name: Name) -> Frame {
+        Frame::Deliver(Delivery {
+            kind: name.kind() as u8,
+            sender: name.sender(),
+            receiver: name.receiver(),
+            sn: name.sn(),
+        })
+    }
 }
 
 /// A job as its frame gives it. What lies beyond six machines or twelve chares is not kept: such a
@@ -116,12 +127,12 @@ pub fn parse(line: &[u8]) -> Option<Frame> {
             value: u16::from_be_bytes([b[2], b[3]]),
             hops: b[4],
         },
-        0x11 => Frame::Deliver {
+        0x11 => Frame::Deliver(Delivery {
             kind: b[1],
             sender: b[2],
             receiver: b[3],
             sn: u16::from_be_bytes([b[4], b[5]]),
-        },
+        }),
         0x12 => Frame::Work { chare: b[1] },
         0x13 => Frame::Checkpoint { machine: b[1] },
         0x14 => Frame::Crash { machine: b[1] },

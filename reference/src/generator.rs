@@ -262,7 +262,7 @@ impl Generator {
         let frame = parse(&out[start..]);
         self.moving = matches!(
             frame,
-            Some(Frame::Inject { .. } | Frame::Deliver { .. } | Frame::Work { .. })
+            Some(Frame::Inject { .. } | Frame::Deliver(_) | Frame::Work { .. })
         );
         let (Some(job), Some(Frame::Crash { machine })) = (&state.job, frame) else {
             return;

@@ -75,7 +75,7 @@ impl History {
                 }
                 self.find_holes(job, machine, state);
             }
-            Frame::Deliver { .. } | Frame::Show { .. } => {}
+            Frame::Deliver(_) | Frame::Show { .. } => {}
         }
         for chare in job.chares() {
             let table = &state.world.chare(chare).table;

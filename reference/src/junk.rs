@@ -1,7 +1,7 @@
 //! Lines that are no frames, and frames that are out of range or blind.
 
 use crate::encode::{bytes, put_digits};
-use crate::frame::Frame;
+use crate::frame::{Delivery, Frame};
 use crate::layout::{random_job, Layout};
 use crate::limits::MAX_NUMBER;
 use crate::rng::Rng;
@@ -118,12 +118,12 @@ pub fn blind_frame(rng: &mut Rng, machines: u8, chares: u8) -> Frame {
                 _ => rng.between(1, 20) as u16,
             };
             let sender = rng.below(chares as usize + 2) as u8;
-            Frame::Deliver {
+            Frame::Deliver(Delivery {
                 kind,
                 sender,
                 receiver: chare,
                 sn,
-            }
+            })
         }
         7..=10 => Frame::Work { chare },
         11 => Frame::Checkpoint { machine },

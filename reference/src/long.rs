@@ -3,7 +3,7 @@
 use crate::encode::put_line;
 use crate::frame::{Draft, Frame};
 use crate::limits::{DESK, MAX_NUMBER};
-use crate::wire::Kind;
+use crate::wire::{Kind, Name};
 
 /// Which number passes 60,000 at the end of the list.
 #[derive(Clone, Copy, Debug, PartialEq, Eq)]
@@ -63,12 +63,7 @@ impl Maker {
 
     fn deliver(&mut self, kinds: &[Kind], sender: u8, receiver: u8, sn: u16) {
         for &kind in kinds {
-            self.put(Frame::Deliver {
-                kind: kind as u8,
-                sender,
-                receiver,
-                sn,
-            });
+            self.put(Name::new(kind, sender, receiver, sn).into());
         }
     }
 

@@ -5,7 +5,7 @@ use crate::frame::{parse, Frame};
 use crate::job::Job;
 use crate::limits::{MAX_HOPS, MAX_NUMBER};
 use crate::message::Body;
-use crate::wire::{Kind, Name};
+use crate::wire::Kind;
 use crate::world::World;
 
 #[derive(Clone, Debug, PartialEq, Eq)]
@@ -60,14 +60,8 @@ impl State {
         match *frame {
             Frame::Job(_) => {}
             Frame::Inject { chare, value, hops } => world.inject(chare, Body { value, hops })?,
-            Frame::Deliver {
-                kind,
-                sender,
-                receiver,
-                sn,
-            } => {
-                let kind = Kind::from_byte(kind).ok_or(Question::Range)?;
-                world.deliver(job, Name::new(kind, sender, receiver, sn))?;
+            Frame::Deliver(delivery) => {
+                world.deliver(job, delivery.name().ok_or(Question::Range)?)?
             }
             Frame::Work { chare } => world.work(job, chare)?,
             Frame::Checkpoint { machine } => world.checkpoint(job, machine)?,
@@ -110,16 +104,11 @@ fn in_range(job: &Job, frame: &Frame) -> bool {
     match *frame {
         Frame::Job(_) => true,
         Frame::Inject { chare, hops, .. } => job.has_chare(chare) && hops <= MAX_HOPS,
-        Frame::Deliver {
-            kind,
-            sender,
-            receiver,
-            sn,
-        } => {
-            Kind::from_byte(kind).is_some()
-                && sender <= job.chare_count()
-                && job.has_chare(receiver)
-                && (1..=MAX_NUMBER).contains(&sn)
+        Frame::Deliver(delivery) => {
+            Kind::from_byte(delivery.kind).is_some()
+                && delivery.sender <= job.chare_count()
+                && job.has_chare(delivery.receiver)
+                && (1..=MAX_NUMBER).contains(&delivery.sn)
         }
         Frame::Work { chare } | Frame::Show { chare } => job.has_chare(chare),
         Frame::Checkpoint { machine } | Frame::Crash { machine } | Frame::Restart { machine } => {

@@ -1,6 +1,6 @@
 //! The proved engine, linked as a library, gives the second implementation's bytes.
 
-use reference::engine::{transcript, write_transcript};
+use reference::engine::{transcript, write_transcript, LINE_SPACE};
 use reference::generator::list;
 use reference::long::{limit_list, Limit};
 use reference::reader::answer_all;
@@ -53,9 +53,6 @@ fn bytes_of_any_kind() {
     });
     same("noise", &noise.take(200_000).collect::<Vec<u8>>());
 }
-
-/// No line is longer than this, newline included.
-const LINE_SPACE: usize = 15;
 
 /// Does a buffer hold the answers to all lines for which it surely had room, and after them what was there?
 fn holds_what_fits(out: &[u8], whole: &[u8]) -> bool {

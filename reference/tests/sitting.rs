@@ -3,10 +3,12 @@
 use reference::answer::{Answer, Question};
 use reference::chare::worked_state;
 use reference::encode::put_line;
-use reference::frame::{parse, Frame};
+use reference::frame::{parse, Delivery, Frame};
 use reference::reader::answer_all;
 use reference::state::State;
+use std::fs;
 use std::io::Write;
+use std::path::Path;
 use std::process::{Command, Stdio};
 
 /// Plays frame and line pairs in one list.
@@ -71,6 +73,20 @@ const SITTING: [(&str, &str); 14] = [
 #[test]
 fn the_whole_sitting() {
     play(&mut State::new(), &SITTING);
+}
+
+/// The first of the examples is this sitting.
+#[test]
+fn the_sitting_as_an_example() {
+    let examples = Path::new(env!("CARGO_MANIFEST_DIR")).join("../examples");
+    let column = |of: fn(&(&str, &str)) -> String| SITTING.iter().map(of).collect::<String>();
+    for (end, want) in [
+        ("in", column(|pair| format!("{}\n", pair.0))),
+        ("out", column(|pair| format!("{}\n", pair.1))),
+    ] {
+        let file = examples.join(format!("00-the-rule-books-sitting.{end}"));
+        assert_eq!(fs::read_to_string(file).unwrap(), want);
+    }
 }
 
 /// The program itself, with a last line that has no newline.
@@ -312,11 +328,11 @@ fn frames_are_read_as_they_are_written() {
     }
     assert_eq!(
         parse(b"1102030401F4"),
-        Some(Frame::Deliver {
+        Some(Frame::Deliver(Delivery {
             kind: 2,
             sender: 3,
             receiver: 4,
             sn: 500
-        })
+        }))
     );
 }

@@ -71,15 +71,15 @@ fn spelt(frame: &Frame) -> Vec<String> {
     let line = match *frame {
         Frame::Job(ref draft) => return job(draft),
         Frame::Inject { chare, value, hops } => format!("inject {chare} value {value} hops {hops}"),
-        Frame::Deliver {
-            kind,
-            sender,
-            receiver,
-            sn,
-        } => {
-            let named = Kind::from_byte(kind).map(|kind| names::kind(kind).to_string());
-            let kind = named.unwrap_or(kind.to_string());
-            format!("deliver {kind} {sender}>{receiver} #{sn}")
+        Frame::Deliver(delivery) => {
+            let kind = match Kind::from_byte(delivery.kind) {
+                Some(kind) => names::kind(kind).to_string(),
+                None => delivery.kind.to_string(),
+            };
+            format!(
+                "deliver {kind} {}>{} #{}",
+                delivery.sender, delivery.receiver, delivery.sn
+            )
         }
         Frame::Work { chare } => format!("work {chare}"),
         Frame::Checkpoint { machine } => format!("checkpoint {machine}"),

@@ -4,7 +4,7 @@ use super::scan::{Scan, BYTE_ORDER_MARK};
 use super::{raw, Error, WORDS};
 use crate::names;
 use reference::encode::{put_digits, put_line};
-use reference::frame::{Draft, Frame};
+use reference::frame::{Delivery, Draft, Frame};
 use reference::limits::{MAX_CHARES, MAX_MACHINES};
 use reference::wire::Kind;
 
@@ -98,12 +98,12 @@ fn deliver(scan: &mut Scan) -> Result<Frame, Error> {
     scan.must(&[">", "→"])?;
     let receiver = scan.byte("a receiver")?;
     let sn = scan.signed('#', "# and an SN without a blank", u16::MAX)?;
-    Ok(Frame::Deliver {
+    Ok(Frame::Deliver(Delivery {
         kind,
         sender,
         receiver,
         sn,
-    })
+    }))
 }
 
 fn draft(scan: &mut Scan) -> Result<Draft, Error> {

@@ -88,7 +88,7 @@ pub fn marks(step: &Step) -> Vec<Mark> {
                 mark(job.buddy_of(machine), MarkKind::Kept, copy),
             ]
         }
-        (_, Frame::Inject { .. } | Frame::Deliver { .. }) => Vec::new(),
+        (_, Frame::Inject { .. } | Frame::Deliver(_)) => Vec::new(),
     }
 }
 

@@ -167,12 +167,12 @@ impl Recorder {
     fn shape(&self, step: &Step, row: &Row) -> String {
         let frame = match step.frame {
             Some(Frame::Inject { chare, hops, .. }) => format!("inject {chare} {hops}"),
-            Some(Frame::Deliver {
-                kind,
-                sender,
-                receiver,
-                ..
-            }) => format!("deliver {kind} {sender} {receiver}"),
+            Some(Frame::Deliver(delivery)) => {
+                format!(
+                    "deliver {} {} {}",
+                    delivery.kind, delivery.sender, delivery.receiver
+                )
+            }
             // Works of one machine are alike, whichever chare it is.
             Some(Frame::Work { .. }) => {
                 let marks = row.marks.iter().map(|mark| (mark.machine, mark.kind));

@@ -2,7 +2,6 @@
 
 use crate::names::{body, count, joined, message, origin, packet, place, sender, tickets};
 use crate::notation::digits_of;
-use crate::traffic::delivery;
 use crate::words::catching;
 use reference::chare::Chare;
 use reference::job::{ix, Job};
@@ -245,12 +244,12 @@ fn wire(job: &Job, world: &World) -> Group {
         };
         let text = format!(
             "{}  {}{carried} from {} to {}",
-            digits_of(&delivery(name)),
+            digits_of(&name.into()),
             packet(name, content),
             place(from),
             place(to)
         );
-        group.put(format!("{} {same}", digits_of(&delivery(name))), text);
+        group.put(format!("{} {same}", digits_of(&name.into())), text);
     }
     group
 }

@@ -46,9 +46,9 @@ fn concerns(done: &Done, machine: u8) -> bool {
         Frame::Restart { .. } => true,
         Frame::Work { chare } => done.job.machine_of(chare) == machine,
         // A GRANT may end the wait of a logged message.
-        Frame::Deliver {
-            kind: 2, sender, ..
-        } => done.job.machine_of(sender) == machine,
+        Frame::Deliver(delivery) => {
+            delivery.kind == 2 && done.job.machine_of(delivery.sender) == machine
+        }
         _ => false,
     }
 }

@@ -4,7 +4,6 @@ use super::crash::no_cover;
 use super::refusal;
 use crate::names::{self, count, message, short};
 use crate::play::Step;
-use crate::traffic::named;
 use reference::answer::Answer;
 use reference::frame::Frame;
 use reference::job::ix;
@@ -35,7 +34,7 @@ pub fn headline(step: &Step) -> String {
                 names::value(value)
             )
         }
-        Frame::Deliver { .. } => match named(frame) {
+        Frame::Deliver(delivery) => match delivery.name() {
             Some(name) => format!("deliver {}", short(name)),
             None => String::new(),
         },

@@ -84,7 +84,7 @@ fn accepted(done: &Done, answer: Answer) -> Vec<String> {
     let mut lines = match *done.frame {
         Frame::Job(ref draft) => job::words(done.job, draft),
         Frame::Inject { chare, value, hops } => send::inject(done, chare, Body { value, hops }),
-        Frame::Deliver { .. } => deliver::words(done),
+        Frame::Deliver(_) => deliver::words(done),
         Frame::Work { chare } => send::work(done, chare),
         Frame::Checkpoint { machine } => checkpoint::words(done, machine),
         Frame::Crash { machine } => crash::words(done, machine),

@@ -18,16 +18,11 @@ pub fn reasons(job: Option<&Job>, frame: &Frame) -> Vec<String> {
             wrong.chare(chare);
             wrong.number("hops", hops.into(), 0, MAX_HOPS.into());
         }
-        Frame::Deliver {
-            kind,
-            sender,
-            receiver,
-            sn,
-        } => {
-            wrong.number("packet kind", kind.into(), 1, Kind::ALL.len());
-            wrong.number("sender", sender.into(), 0, wrong.chares.into());
-            wrong.number("receiver", receiver.into(), 1, wrong.chares.into());
-            wrong.number("SN", sn.into(), 1, MAX_NUMBER.into());
+        Frame::Deliver(delivery) => {
+            wrong.number("packet kind", delivery.kind.into(), 1, Kind::ALL.len());
+            wrong.number("sender", delivery.sender.into(), 0, wrong.chares.into());
+            wrong.number("receiver", delivery.receiver.into(), 1, wrong.chares.into());
+            wrong.number("SN", delivery.sn.into(), 1, MAX_NUMBER.into());
         }
         Frame::Work { chare } | Frame::Show { chare } => wrong.chare(chare),
         Frame::Checkpoint { machine } | Frame::Crash { machine } | Frame::Restart { machine } => {

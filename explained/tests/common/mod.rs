@@ -4,10 +4,12 @@
 #![allow(dead_code)]
 
 pub mod run;
+pub mod svg;
 
 use explained::engine;
 use explained::picture::{Drawing, Story};
 use explained::report::{report, Report};
+use reference::generator;
 use std::fs;
 use std::path::{Path, PathBuf};
 
@@ -34,6 +36,12 @@ pub fn names() -> Vec<String> {
 
 pub fn list(name: &str) -> Vec<u8> {
     fs::read(folder().join(format!("{name}.in"))).expect("a list")
+}
+
+/// Random lists of six machines and twelve chares, with their seeds.
+pub fn widest_lists() -> impl Iterator<Item = (u64, Vec<u8>)> {
+    let lists = (0..3000).map(|seed| (seed, generator::list(seed, 120)));
+    lists.filter(|(_, list)| list[..6].eq_ignore_ascii_case(b"01060C"))
 }
 
 pub fn explained(input: &[u8]) -> Report {

@@ -3,7 +3,7 @@
 use std::ffi::OsStr;
 use std::fs;
 use std::io::Write;
-use std::path::PathBuf;
+use std::path::{Path, PathBuf};
 use std::process::{Command, Output, Stdio};
 
 pub fn satuphir() -> Command {
@@ -43,4 +43,20 @@ pub fn fresh(name: &str) -> PathBuf {
     let _ = fs::remove_dir_all(&folder);
     fs::create_dir_all(&folder).expect("a folder");
     folder
+}
+
+/// Each subcommand with a list of this name.
+pub fn with_list(list: &OsStr) -> Vec<Vec<&OsStr>> {
+    let out = Path::new("/dev/null").as_os_str();
+    let word = OsStr::new;
+    vec![
+        vec![word("play"), list],
+        vec![word("explain"), list],
+        vec![word("picture"), list, out],
+        vec![word("page"), list, out],
+        vec![word("state"), word("1"), list],
+        vec![word("next"), list],
+        vec![word("encode"), list],
+        vec![word("decode"), list],
+    ]
 }
