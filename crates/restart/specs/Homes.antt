@@ -8,7 +8,7 @@ use Rattle.words.specs.Part.{part, put, part-put, part-before}
 use Rattle.tickets.specs.Table.{entries}
 use Rattle.memory.specs.Places.{ROW}
 use Rattle.store.specs.{View.view, Visits.{chosen, visited, visit-none, visit-hit, visit-miss, visit-all}}
-use Rattle.restart.specs.{Limited.{held, limit, held-same}, Ranges.{range, range-next, range-past, range-chares}, Stored.span, Restored.{renewed, come-back}}
+use Rattle.restart.specs.{Limited.{held, limit, held-same}, Ranges.{count-from, range, range-next, range-past}, Stored.span, Restored.{renewed, come-back}}
 
 abbrev pub ROWS : ℕ
 ROWS = 13 * ROW
@@ -32,11 +32,12 @@ pub record Going (s : State) (p c : ℕ) (rows : List ℕ) : Type 0 where
   pub table : (i : ℕ) → i < c → 1 ≤ i → on (s .job) p i ≡ true → table-in rows i ≡ filled-table s p i
 
 pub going-start : (s : State) (p : ℕ) (rows : List ℕ) → Going s p 1 rows
-unfolding tables-fit passes
-going-start s p rows = record { fits = allb-keep _ (on (s .job) p) every-chare ∙ rw range-chares; table = λ i b a. absurd (omega arith) }
+unfolding tables-fit passes every-chare range count-from
+going-start s p rows = record { fits = allb-keep _ (on (s .job) p) every-chare; table = λ i b a. absurd (omega arith) }
 
-one-more : {P : ℕ → Type 0} (c : ℕ) → ((i : ℕ) → i < c → P i) → P c → (i : ℕ) → i < c + 1 → P i
-one-more {P} c f x i h = ⊎-elim (λ l. f i l) (λ l. let e : i ≡ c = omega arith in rw e x) (lt? i c)
+-- what holds below c and at c
+below-next : {P : ℕ → Type 0} (c : ℕ) → ((i : ℕ) → i < c → P i) → P c → (i : ℕ) → i < c + 1 → P i
+below-next {P} c f x i h = ⊎-elim (λ l. f i l) (λ l. let e : i ≡ c = omega arith in rw e x) (lt? i c)
 
 module _ (s : State) (p c : ℕ) (rows : List ℕ) (g : Going s p c rows) where
   pub going-end : 13 ≤ c → AllTables s p rows true
@@ -49,7 +50,7 @@ module _ (s : State) (p c : ℕ) (rows : List ℕ) (g : Going s p c rows) where
 
     pub going-skip : on (s .job) p c ≡ false → Going s p (c + 1) rows
     unfolding allb passes
-    going-skip e = record { fits = next ∙ rw e; table = one-more c (g .table) (λ a o. true-not-false o e) }
+    going-skip e = record { fits = next ∙ rw e; table = below-next c (g .table) (λ a o. true-not-false o e) }
 
     -- the row of c, built
     module _ (e : on (s .job) p c ≡ true) (r : Bool) (ys : List ℕ) (built : held r (entries ys) ≡ limit 16 (filled-table s p c)) where
@@ -71,7 +72,7 @@ module _ (s : State) (p c : ℕ) (rows : List ℕ) (g : Going s p c rows) where
           let room : c * ROW + ROW ≤ length rows = omega arith in
           rw d (record {
             fits = next ∙ rw (e, ← same .0, f);
-            table = one-more c
+            table = below-next c
                 (λ i l a o. rw (part-before (c * ROW) ROW rows ys room k (i * ROW) ROW (omega arith)) (g .table i l a o))
                 (λ a o. rw (part-put (c * ROW) ROW rows ys room k) (same .1 f));
           })
@@ -117,10 +118,12 @@ module _ (s : State) (p : ℕ) (rows : List ℕ) where
         let there : on (s .job) p k ≡ false = rw inv at e in
         inv ∙ rw (visit-miss (on (s .job) p) targets (s .target) k there, visit-miss (on (s .job) p) memories (s .live) k there)
 
-  module _ (k : ℕ) (h : 13 ≤ k) (past : (i : ℕ) → 13 ≤ i → on (s .job) p i ≡ false) where
+  module _ (k : ℕ) (h : 13 ≤ k) (last : (i : ℕ) → on (s .job) p i ≡ true → i < 13) where
     all-passed : {A : Type 0} (f : ℕ → A → A) (g : ℕ → A) → visited (on (s .job) p) (at-home (s .job) p f g) g k ≡ at-home (s .job) p f g
     unfolding chosen at-home
-    all-passed f g = visit-all (on (s .job) p) (at-home (s .job) p f g) g k 13 h (λ i q. rw (past i q)) ∙ fun-ext (λ i. either (on (s .job) p i) (λ e. rw e) (λ e. rw e))
+    all-passed f g =
+        visit-all (on (s .job) p) (at-home (s .job) p f g) g k 13 h (λ i q. either (on (s .job) p i) (λ e. absurd (omega (arith, last i e))) (λ e. rw e))
+        ∙ fun-ext (λ i. either (on (s .job) p i) (λ e. rw e) (λ e. rw e))
 
     pub backs-all : backs k ≡ all-back
     unfolding backs all-back

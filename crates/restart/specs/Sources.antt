@@ -21,14 +21,9 @@ unfoldable pub sender-tickets : State → ℕ → ℕ → ℕ → ℕ → List E
 sender-tickets s p c h q = gather (logged c h) (other-log s p q)
 
 -- all tickets known of chare c, by one walk through each of their sources
-unfoldable pub known : State → ℕ → ℕ → List Entry
-known s p c =
-    gather copied (s .copy c .table)
-    ++ (gather (sender-tickets s p c (s .copy c .height)) every-sender
-    ++ gather (noted c (s .copy c .height)) (s .notes p))
-
-pub known-is : (s : State) (p c : ℕ) → known-tickets s p c ≡ known s p c
-unfolding known-tickets known sender-tickets copied logged noted
+pub known-is : (s : State) (p c : ℕ) → known-tickets s p c
+    ≡ gather copied (s .copy c .table) ++ (gather (sender-tickets s p c (s .copy c .height)) every-sender ++ gather (noted c (s .copy c .height)) (s .notes p))
+unfolding known-tickets sender-tickets copied logged noted
 known-is s p c =
     let h = s .copy c .height in
     sym (rw (

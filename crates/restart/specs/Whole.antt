@@ -1,24 +1,19 @@
 -- A restart put together: the tables in rows, the wire beside the store, and the store changed by both.
-use Rattle.lists.specs.Basics.{_≡_, refl, sym, _∙_, fun-ext, Bool, true, false, not, List, _≢_, ℕ, _+_, _<_, _≤_, arith, eqb, length, set}
+use Rattle.lists.specs.Basics.{_≡_, refl, sym, _∙_, fun-ext, Bool, true, false, not, List, _≢_, ℕ, _≤_, arith, eqb, length}
 use Rattle.lists.specs.{Tests.either, Lists.{keep, gather}, Map.upd, Questions.{asks, first-no}}
 use Rattle.protocol.specs.{declared.Answer.the-variants.{Accepted, Refused}, declared.Packet.Packet, declared.Status.the-variants.CatchingUp}
 use Rattle.protocol.specs.{Parts.{State, on, at-home, every-sender, with-status, with-live, with-wire, is-down}, Packets.goes-to, Restart.{restart, restore, restored, target-of}}
 use Rattle.protocol.specs.{Questions.{restart-questions, is-machine, wire-fits}, Step.judged}
-use Rattle.words.specs.Part.{part, put}
-use Rattle.head.specs.Head.{STATUS, as-status, job-of}
+use Rattle.words.specs.Part.{part}
+use Rattle.head.specs.Head.{job-of}
 use Rattle.packets.specs.{Words.packets, Fits.packets-fit}
-use Rattle.store.specs.{Places.{WIRE, PACKETS, STORE}, View.{view, outcome, tried, Framed}, ViewLaws.{wire-at, status-set, wire-put}, Framing.{refuses, accepts, machine-in}}
+use Rattle.store.specs.{Places.{WIRE, PACKETS, STORE}, View.{view, outcome, tried, Framed}, ViewLaws.wire-at, Framing.{refuses, accepts, machine-in}}
 use Rattle.restart.specs.{Limited.{held, limit, held-same}, Stored.job-at, OnMachine.{on-first, on-last}, Restored.renewed, Homes.{AllTables, new-memory, all-back}}
 use Rattle.restart.specs.{Resends.{all-again, resends-is}, Sent.{putting, putting-all}, Judged.{asked, early, late}}
 
 -- p is catching up, its chares have the tables in the rows, and w is on the wire
 unfoldable pub back : State → ℕ → List ℕ → List Packet → State
 back s p rows w = with-wire (all-back (with-status s (upd p CatchingUp (s .status)) (s .target)) p rows) w
-
-pub change-is : (xs ys rows ws zs : List ℕ) (p : ℕ) → length xs ≡ STORE → p < 7 → length ys ≡ STORE → view ys ≡ all-back (view (set xs (STATUS + p) 2)) p rows
-    → length ws ≡ PACKETS → zs ≡ ws → view (put WIRE PACKETS ys zs) ≡ back (view xs) p rows (packets ws)
-unfolding back as-status
-change-is xs ys rows ws zs p size h long e k z = rw z (wire-put ys long ws k ∙ rw (e, status-set xs size 2 p h))
 
 -- ---- the rule book's restart, by its parts
 module _ (s : State) (p : ℕ) (rows : List ℕ) (same : (c : ℕ) → on (s .job) p c ≡ true → new-memory s rows c ≡ restored s p c) where
@@ -54,9 +49,7 @@ module _ (xs : List ℕ) (size : length xs ≡ STORE) (p n : ℕ) (e : n ≡ fir
           (sent : held y (packets d) ≡ putting (packets b) (gather (all-again (view xs) p) every-sender)) where
         same : (c : ℕ) → on (view xs .job) p c ≡ true → new-memory (view xs) rows c ≡ restored (view xs) p c
         unfolding new-memory renewed restored
-        same c o =
-            let q : on (job-of xs) p c ≡ true = unfold view in o in
-            rw (built .table f c (on-first xs (omega arith) p (machine .0) c q) (on-last xs (omega arith) p (machine .0) c q) o)
+        same c o = rw (built .table f c (on-first xs (omega arith) p (machine .0) c o) (on-last xs (omega arith) p (machine .0) c o) o)
 
         limited : (y ≡ wire-fits (restart (view xs) p)) × (y ≡ true → packets d ≡ restart (view xs) p .wire)
         unfolding limit wire-fits restart restore

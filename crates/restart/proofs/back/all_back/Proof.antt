@@ -1,7 +1,7 @@
 -- `all_back` goes through the chares. The loop: those below n are back.
 use Rattle.lists.specs.Basics.{_≡_, _∙_, _-_, _≤_, arith, length, needs}
 use Rattle.store.specs.{Places.STORE, View.view}
-use Rattle.restart.specs.{Stored.job-at, OnMachine.{home-at, beyond-not-on}, Homes.{backs, backs-start, backs-more, backs-skip, backs-all}}
+use Rattle.restart.specs.{OnMachine.{home-at, on-last}, Homes.{backs, backs-start, backs-more, backs-skip, backs-all}}
 use Rattle.restart.proofs.back.all_back.Statement.{statement}
 use Rattle.restart.proofs.back.all_back.Tie as tie
 
@@ -38,7 +38,7 @@ returns c =
     let st = c .before .before .before .before in
     let a = st .args in
     let l = c .before .loop in
-    l .inv .2 ∙ backs-all (view (a .s .now)) (a .p) (a .rows .now) (l .n) (omega arith) (rw (job-at (a .s .now)) (beyond-not-on (a .s .now) (omega arith) (a .p) (st .pre .1)))
+    l .inv .2 ∙ backs-all (view (a .s .now)) (a .p) (a .rows .now) (l .n) (omega arith) (on-last (a .s .now) (omega arith) (a .p) (st .pre .1))
 
 pub all-back-spec : {M : Type 1} → statement M
 all-back-spec =

@@ -1,5 +1,5 @@
 -- `resend` goes by where receiver and sender are.
-use Rattle.lists.specs.Basics.{arith, sym, _∙_, needs}
+use Rattle.lists.specs.Basics.{arith, needs}
 use Rattle.restart.specs.{OnMachine.{home-at, on-last}, Resends.{packets-of, again}}
 use Rattle.restart.proofs.resend.resend.Statement.{statement}
 use Rattle.restart.proofs.resend.resend.Tie as tie
@@ -14,7 +14,7 @@ height-back-requires : tie.Need-height-back-requires
 height-back-requires c κs =
     let st = c .before .before .before .before .before in
     let a = st .args in
-    (st .pre .0, on-last (a .s .now) (omega arith) (a .p) (st .pre .1) (a .x .message .receiver) (sym (c .before .before .on .ensures) ∙ c .before .if1 .taken))
+    (st .pre .0, on-last (a .s .now) (omega arith) (a .p) (st .pre .1) (a .x .message .receiver) (home-at (a .s .now) (a .p) (a .x .message .receiver) _ _ (c .before .before .on .ensures) (c .before .if1 .taken)))
 
 returns-2 : tie.Need-returns-2
 unfolding again

@@ -1,10 +1,10 @@
 -- `resend_all` goes through the logs. The loop: those from q on are still to be sent.
-use Rattle.lists.specs.Basics.{_≡_, _-_, _≤_, arith, not-true, not-false, length, needs}
+use Rattle.lists.specs.Basics.{_≡_, refl, _-_, _≤_, arith, not-true, not-false, length, needs}
 use Rattle.lists.specs.Lists.{gather}
-use Rattle.protocol.specs.Parts.{every-sender}
+use Rattle.protocol.specs.Parts.{every-chare, every-sender}
 use Rattle.packets.specs.Words.{packets}
 use Rattle.store.specs.{Places.PACKETS, View.view}
-use Rattle.restart.specs.{Ranges.{range, range-next, range-past, range-senders}, Limited.{more-end, more-on, more-stop}, Resends.all-again, Sent.{one-more, putting}}
+use Rattle.restart.specs.{Ranges.{count-from, range, range-next, range-past}, Limited.{more-end, more-on, more-stop}, Resends.all-again, Sent.{one-more, putting}}
 use Rattle.restart.proofs.resend.resend_all.Statement.{statement}
 use Rattle.restart.proofs.resend.resend_all.Tie as tie
 
@@ -15,7 +15,8 @@ abbrev μ-loop : tie.MeasureT-loop
 μ-loop s p wire₀ q₀ wire q = 13 - q
 
 loop-holds : tie.Need-loop-holds Inv-loop μ-loop
-loop-holds c = (search needs, search needs, rw range-senders)
+unfolding every-sender every-chare range count-from
+loop-holds c = (search needs, search needs, refl)
 
 returns : tie.Need-returns Inv-loop μ-loop
 returns c =

@@ -4,7 +4,7 @@ use Rattle.lists.specs.Lists.{keep, gather}
 use Rattle.protocol.specs.{Parts.every-chare, Restart.{fill-all, local-log}}
 use Rattle.tickets.specs.Table.{entries}
 use Rattle.store.specs.View.{view}
-use Rattle.restart.specs.{Fills.{filling, filling-append}, Ranges.{range, range-next, range-past, range-chares}, Stored.copy-log, OnMachine.home-at}
+use Rattle.restart.specs.{Fills.{filling, filling-append}, Ranges.{count-from, range, range-next, range-past}, Stored.copy-log, OnMachine.home-at}
 use Rattle.restart.proofs.table.fill_all.Statement.{statement}
 use Rattle.restart.proofs.table.fill_all.Tie as tie
 
@@ -15,7 +15,8 @@ abbrev μ-loop : tie.MeasureT-loop
 μ-loop row₀ s p c h q₀ row q = 13 - q
 
 loop-holds : tie.Need-loop-holds Inv-loop μ-loop
-loop-holds c = let a = c .before .before .args in (search needs, search needs, refl, rw range-chares)
+unfolding every-chare range count-from
+loop-holds c = (search needs, search needs, refl, refl)
 
 loop-again : tie.Need-loop-again Inv-loop μ-loop
 unfolding gather local-log

@@ -1,11 +1,11 @@
 -- `from_logs` goes through the logs. The loop: those from q on are still to be entered.
-use Rattle.lists.specs.Basics.{_≡_, _-_, _≤_, arith, not-true, not-false, length, needs}
+use Rattle.lists.specs.Basics.{_≡_, refl, _-_, _≤_, arith, not-true, not-false, length, needs}
 use Rattle.lists.specs.Lists.{gather}
-use Rattle.protocol.specs.{Parts.every-sender, Restart.{enter, other-log}}
+use Rattle.protocol.specs.{Parts.{every-chare, every-sender}, Restart.{enter, other-log}}
 use Rattle.tickets.specs.Table.{entries}
 use Rattle.memory.specs.Places.{ROW}
 use Rattle.store.specs.View.{view}
-use Rattle.restart.specs.{Limited.{more-end, more-skip, more-on, more-stop}, Tables.entering, Ranges.{range, range-next, range-past, range-senders}}
+use Rattle.restart.specs.{Limited.{more-end, more-skip, more-on, more-stop}, Tables.entering, Ranges.{count-from, range, range-next, range-past}}
 use Rattle.restart.specs.{Sources.sender-tickets, Stored.live-log, OnMachine.home-at}
 use Rattle.restart.proofs.table.from_logs.Statement.{statement}
 use Rattle.restart.proofs.table.from_logs.Tie as tie
@@ -17,7 +17,8 @@ abbrev μ-loop : tie.MeasureT-loop
 μ-loop row₀ s p c h q₀ row q = 13 - q
 
 loop-holds : tie.Need-loop-holds Inv-loop μ-loop
-loop-holds c = let a = c .before .before .args in (search needs, search needs, rw range-senders)
+unfolding every-sender every-chare range count-from
+loop-holds c = (search needs, search needs, refl)
 
 returns : tie.Need-returns Inv-loop μ-loop
 unfolding sender-tickets other-log
