@@ -1,14 +1,14 @@
 -- The chares of p take what they get back; the others stay. Their tables stand in rows, one a chare.
-use Rattle.lists.specs.Basics.{_≡_, refl, sym, _∙_, fun-ext, Bool, true, false, not, _||_, List, _∷_, ⊎-elim, ℕ, _+_, _-_, _*_, _<_, _≤_, arith, leb, length}
+use Rattle.lists.specs.Basics.{_≡_, refl, _∙_, fun-ext, Bool, true, false, not, _||_, List, ⊎-elim, ℕ, _+_, _-_, _*_, _<_, _≤_, arith, leb, length}
 use Rattle.lists.specs.{Tests.{either, true-not-false, lt?}, Lists.allb}
 use Rattle.protocol.specs.{declared.Entry.Entry, Parts.{State, Memory, on, at-home, every-chare, with-live, with-status}, Restart.{filled-table, target-of}}
 use Rattle.protocol.specs.Questions.{tables-fit}
-use Rattle.arrays.specs.Loops.{allb-keep}
+use Rattle.arrays.specs.Loops.{each, each-hit, each-miss, each-end, allb-keep}
 use Rattle.words.specs.Part.{part, put, part-put, part-before}
 use Rattle.tickets.specs.Table.{entries}
 use Rattle.memory.specs.Places.{ROW}
 use Rattle.store.specs.{View.view, Visits.{chosen, visited, visit-none, visit-hit, visit-miss, visit-all}}
-use Rattle.restart.specs.{Limited.{held, limit, held-same}, Ranges.{count-from, range, range-next, range-past}, Stored.span, Restored.{renewed, come-back}}
+use Rattle.restart.specs.{Limited.{held, limit, held-same}, Stored.span, Restored.{renewed, come-back}}
 
 abbrev pub ROWS : ℕ
 ROWS = 13 * ROW
@@ -28,29 +28,25 @@ passes s p c = not (on (s .job) p c) || leb (length (filled-table s p c)) 16
 
 -- the loop has passed the chares below c
 pub record Going (s : State) (p c : ℕ) (rows : List ℕ) : Type 0 where
-  pub fits : tables-fit s p ≡ allb (passes s p) (range 13 c)
+  pub fits : tables-fit s p ≡ each (passes s p) (13 - c) c
   pub table : (i : ℕ) → i < c → 1 ≤ i → on (s .job) p i ≡ true → table-in rows i ≡ filled-table s p i
 
 pub going-start : (s : State) (p : ℕ) (rows : List ℕ) → Going s p 1 rows
-unfolding tables-fit passes every-chare range count-from
+unfolding tables-fit passes every-chare allb each
 going-start s p rows = record { fits = allb-keep _ (on (s .job) p) every-chare; table = λ i b a. absurd (omega arith) }
 
--- what holds below c and at c
+-- what holds below c and at c holds below c + 1
 below-next : {P : ℕ → Type 0} (c : ℕ) → ((i : ℕ) → i < c → P i) → P c → (i : ℕ) → i < c + 1 → P i
 below-next {P} c f x i h = ⊎-elim (λ l. f i l) (λ l. let e : i ≡ c = omega arith in rw e x) (lt? i c)
 
 module _ (s : State) (p c : ℕ) (rows : List ℕ) (g : Going s p c rows) where
   pub going-end : 13 ≤ c → AllTables s p rows true
-  unfolding allb
-  going-end h = record { fits = sym (g .fits ∙ rw (range-past 13 c h)); table = λ _ i a b. g .table i (omega arith) a }
+  going-end h = record { fits = each-end (passes s p) 13 c (tables-fit s p) (g .fits) h; table = λ _ i a b. g .table i (omega arith) a }
 
   module _ (h : c < 13) where
-    next : tables-fit s p ≡ allb (passes s p) (c ∷ range 13 (c + 1))
-    next = g .fits ∙ rw (range-next 13 c h)
-
     pub going-skip : on (s .job) p c ≡ false → Going s p (c + 1) rows
-    unfolding allb passes
-    going-skip e = record { fits = next ∙ rw e; table = below-next c (g .table) (λ a o. true-not-false o e) }
+    unfolding passes
+    going-skip e = record { fits = each-hit (passes s p) 13 c (tables-fit s p) (g .fits) h (rw e); table = below-next c (g .table) (λ a o. true-not-false o e) }
 
     -- the row of c, built
     module _ (e : on (s .job) p c ≡ true) (r : Bool) (ys : List ℕ) (built : held r (entries ys) ≡ limit 16 (filled-table s p c)) where
@@ -59,19 +55,19 @@ module _ (s : State) (p c : ℕ) (rows : List ℕ) (g : Going s p c rows) where
       same = held-same r _ (entries ys) _ built
 
       pub going-stop : r ≡ false → (out : List ℕ) → AllTables s p out false
-      unfolding allb passes
-      going-stop f out = record { fits = sym (next ∙ rw (e, ← same .0, f)); table = λ q. true-not-false q refl }
+      unfolding passes
+      going-stop f out = record { fits = each-miss (passes s p) 13 c (tables-fit s p) (g .fits) h (rw (e, ← same .0, f)); table = λ q. true-not-false q refl }
 
       abbrev long : ℕ
       long = (c * ROW + ROW) - c * ROW
 
       pub going-more : r ≡ true → length rows ≡ ROWS → length ys ≡ ROW → Going s p (c + 1) (put (c * ROW) long rows ys)
-      unfolding allb passes table-in
+      unfolding passes table-in
       going-more f size k =
           let d : long ≡ ROW = omega arith in
           let room : c * ROW + ROW ≤ length rows = omega arith in
           rw d (record {
-            fits = next ∙ rw (e, ← same .0, f);
+            fits = each-hit (passes s p) 13 c (tables-fit s p) (g .fits) h (rw (e, ← same .0, f));
             table = below-next c
                 (λ i l a o. rw (part-before (c * ROW) ROW rows ys room k (i * ROW) ROW (omega arith)) (g .table i l a o))
                 (λ a o. rw (part-put (c * ROW) ROW rows ys room k) (same .1 f));

@@ -11,7 +11,7 @@ module _ {A : Type 0} where
   unfoldable pub limit : ℕ → List A → Option (List A)
   limit K l = held (leb (length l) K) l
 
-  -- equal: one flag, and one list where that says so
+  -- of two that are equal the flags are equal, and the lists where the flag says so
   pub held-same : (b c : Bool) (l m : List A) → held b l ≡ held c m → (b ≡ c) × (b ≡ true → l ≡ m)
   unfolding held
   held-same true true l m e = (refl, λ _. cc)
@@ -38,7 +38,7 @@ module _ {A B : Type 0} (K : ℕ) (step : List A → B → List A) where
   more-append o [] b = refl
   more-append o (x ∷ a) b = more-append (one o x) a b
 
-  -- the same without a limit
+  -- `all` does the same without a limit
   module _ (all : List A → List B → List A) (all-nil : (l : List A) → all l [] ≡ l) (all-cons : (l : List A) (b : B) (bs : List B) → all l (b ∷ bs) ≡ all (step l b) bs)
       (grows : (l : List A) (b : B) → length l ≤ length (step l b)) where
     all-grow : (l : List A) (bs : List B) → length l ≤ length (all l bs)

@@ -63,4 +63,4 @@ module _ (s : State) (p : ℕ) where
 
   pub resends-is : resends (restore s p) p ≡ gather (all-again s p) every-sender
   unfolding resends all-again
-  resends-is = ap (λ f. gather f every-sender) (fun-ext (λ q. rw (log-is q) (ap (λ f. gather f (sort log-order (log-back s p q))) (fun-ext (resend-is q)))))
+  resends-is = ap (λ f. gather f every-sender) (fun-ext (λ q. rw (log-is q, fun-ext (resend-is q))))
