@@ -1,20 +1,11 @@
 -- A filtered and mapped list, and one of lists joined, as one walk through what they are made from.
-use Rattle.lists.specs.Basics.{_≡_, refl, sym, ap, _∙_, Bool, true, false, cond, List, [], _∷_, _++_, map, append-assoc, ℕ, _+_, _≤_, _<_, add-one, length, drop, getD}
-use Rattle.lists.specs.Basics.{drop-of-length-le, drop-cons}
+use Rattle.lists.specs.Basics.{_≡_, refl, sym, ap, _∙_, Bool, cond, List, [], _∷_, _++_, map, append-assoc, ℕ, _+_, _<_, add-one, length, drop, getD, drop-cons}
 use Rattle.lists.specs.{Tests.either, Lists.{keep, gather}}
 
 module _ {A B : Type 0} where
   -- an element that passes a test, mapped
   unfoldable pub chosen : (A → Bool) → (A → B) → A → List B
   chosen p f x = cond (p x) (f x ∷ []) []
-
-  pub chosen-yes : (p : A → Bool) (f : A → B) (x : A) → p x ≡ true → chosen p f x ≡ f x ∷ []
-  unfolding chosen
-  chosen-yes p f x e = rw e
-
-  pub chosen-no : (p : A → Bool) (f : A → B) (x : A) → p x ≡ false → chosen p f x ≡ []
-  unfolding chosen
-  chosen-no p f x e = rw e
 
   pub gather-chosen : (p : A → Bool) (f : A → B) (l : List A) → gather (chosen p f) l ≡ map f (keep p l)
   unfolding gather chosen keep
@@ -36,10 +27,6 @@ unfolding gather
 gather-gather g f [] = refl
 gather-gather g f (x ∷ l) = ap (gather g (f x) ++_) (gather-gather g f l) ∙ sym (gather-append g (f x) (gather f l))
 
--- ---- going through a list by an index
-module _ {A : Type 0} (l : List A) (i : ℕ) where
-  pub next : (x d : A) → x ≡ getD l i d → i < length l → drop i l ≡ x ∷ drop (i + 1) l
-  next x d e h = rw (add-one, drop-cons l i d, e)
-
-  pub past : length l ≤ i → drop i l ≡ []
-  past h = drop-of-length-le l {i = i} h
+-- going through a list by an index
+pub next : {A : Type 0} (l : List A) (i : ℕ) (x d : A) → x ≡ getD l i d → i < length l → drop i l ≡ x ∷ drop (i + 1) l
+next l i x d e h = rw (add-one, drop-cons l i d, e)

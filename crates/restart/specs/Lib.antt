@@ -10,7 +10,6 @@ pub mod Sources
 pub mod Built
 pub mod Resends
 pub mod Sent
-pub mod Over
 pub mod Restored
 pub mod Homes
 pub mod Judged

@@ -1,7 +1,7 @@
 -- A list that grows step by step, held while it has at most K elements: past that nothing is left, whatever follows.
 use Rattle.lists.specs.Basics.{_≡_, refl, sym, _∙_, Bool, true, false, cond, List, [], _∷_, _++_, Option, some, none, ℕ, _≤_, arith, le-leb, lt-leb, leb-true, leb-false, leb}
 use Rattle.lists.specs.Basics.{length}
-use Rattle.lists.specs.{Tests.either, Lists.gather}
+use Rattle.lists.specs.{Tests.{either, true-not-false}, Lists.gather}
 
 module _ {A : Type 0} where
   -- the list, where the flag says so
@@ -11,24 +11,13 @@ module _ {A : Type 0} where
   unfoldable pub limit : ℕ → List A → Option (List A)
   limit K l = held (leb (length l) K) l
 
-  -- a list that was not refused
-  pub held-true : (b : Bool) (l m : List A) → held b l ≡ held true m → l ≡ m
+  -- of two that are equal the flags are equal, and the lists where the flag says so
+  pub held-same : (b c : Bool) (l m : List A) → held b l ≡ held c m → (b ≡ c) × (b ≡ true → l ≡ m)
   unfolding held
-  held-true true l m e = cc
-  held-true false l m e = absurd (let z : _≡_ {A = ℕ} 0 1 = cc in omega arith)
-
-  pub held-fits : (b c : Bool) (l m : List A) → held b l ≡ held c m → b ≡ c
-  unfolding held
-  held-fits true true l m e = refl
-  held-fits true false l m e = absurd (let z : _≡_ {A = ℕ} 0 1 = cc in omega arith)
-  held-fits false true l m e = absurd (let z : _≡_ {A = ℕ} 0 1 = cc in omega arith)
-  held-fits false false l m e = refl
-
-  -- a choice that the flag makes already
-  pub held-cond : (b : Bool) (l m : List A) → held b (cond b l m) ≡ held b l
-  unfolding held
-  held-cond true l m = refl
-  held-cond false l m = refl
+  held-same true true l m e = (refl, λ _. cc)
+  held-same true false l m e = absurd (let z : _≡_ {A = ℕ} 0 1 = cc in omega arith)
+  held-same false true l m e = absurd (let z : _≡_ {A = ℕ} 0 1 = cc in omega arith)
+  held-same false false l m e = (refl, λ f. true-not-false f refl)
 
 module _ {A B : Type 0} (K : ℕ) (step : List A → B → List A) where
   unfoldable pub one : Option (List A) → B → Option (List A)
@@ -39,39 +28,31 @@ module _ {A B : Type 0} (K : ℕ) (step : List A → B → List A) where
   more o [] = o
   more o (b ∷ bs) = more (one o b) bs
 
-  -- the same without a limit
-  unfoldable pub steps : List A → List B → List A
-  steps l [] = l
-  steps l (b ∷ bs) = steps (step l b) bs
-
   pub more-none : (bs : List B) → more none bs ≡ none
   unfolding more one
   more-none [] = refl
   more-none (b ∷ bs) = more-none bs
-
-  pub more-one : (l : List A) (b : B) → more (held true l) (b ∷ []) ≡ limit K (step l b)
-  unfolding more one held
-  more-one l b = refl
 
   pub more-append : (o : Option (List A)) (a b : List B) → more o (a ++ b) ≡ more (more o a) b
   unfolding more
   more-append o [] b = refl
   more-append o (x ∷ a) b = more-append (one o x) a b
 
-  module _ (grows : (l : List A) (b : B) → length l ≤ length (step l b)) where
-    steps-grow : (l : List A) (bs : List B) → length l ≤ length (steps l bs)
-    unfolding steps
-    steps-grow l [] = omega arith
-    steps-grow l (b ∷ bs) = let g = grows l b in let h = steps-grow (step l b) bs in omega arith
+  -- `all` does the same without a limit
+  module _ (all : List A → List B → List A) (all-nil : (l : List A) → all l [] ≡ l) (all-cons : (l : List A) (b : B) (bs : List B) → all l (b ∷ bs) ≡ all (step l b) bs)
+      (grows : (l : List A) (b : B) → length l ≤ length (step l b)) where
+    all-grow : (l : List A) (bs : List B) → length l ≤ length (all l bs)
+    all-grow l [] = rw (all-nil l) (omega arith)
+    all-grow l (b ∷ bs) = rw (all-cons l b bs) (omega (arith, grows l b, all-grow (step l b) bs))
 
     -- a list past the limit at some step is past it at the end
-    pub more-limit : (l : List A) (bs : List B) → length l ≤ K → more (held true l) bs ≡ limit K (steps l bs)
-    unfolding more one steps limit held
-    more-limit l [] h = rw (le-leb (length l) K h)
-    more-limit l (b ∷ bs) h = either (leb (length (step l b)) K)
+    pub more-limit : (l : List A) (bs : List B) → length l ≤ K → more (held true l) bs ≡ limit K (all l bs)
+    unfolding more one limit held
+    more-limit l [] h = rw (all-nil l, le-leb (length l) K h)
+    more-limit l (b ∷ bs) h = rw (all-cons l b bs) (either (leb (length (step l b)) K)
         (λ e. rw e (more-limit (step l b) bs (leb-true (length (step l b)) K e)))
-        (λ e. let f = leb-false (length (step l b)) K e in let g = steps-grow (step l b) bs in
-        rw (e, lt-leb (length (steps (step l b) bs)) K (omega arith)) (more-none bs))
+        (λ e. let f = leb-false (length (step l b)) K e in let g = all-grow (step l b) bs in
+        rw (e, lt-leb (length (all (step l b) bs)) K (omega arith)) (more-none bs)))
 
   -- a loop through the elements of `rest`, each of which adds what g says; a is what comes out
   module _ {C : Type 0} (g : C → List B) (a : Option (List A)) (l : List A) (rest : List C) (inv : a ≡ more (held true l) (gather g rest)) where
@@ -79,18 +60,19 @@ module _ {A B : Type 0} (K : ℕ) (step : List A → B → List A) where
     unfolding gather more
     more-end e = sym (inv ∙ rw e)
 
-    pub more-skip : (x : C) (left : List C) → rest ≡ x ∷ left → g x ≡ [] → a ≡ more (held true l) (gather g left)
-    unfolding gather
-    more-skip x left e q = inv ∙ rw (e, q)
-
-    module _ (x : C) (left : List C) (e : rest ≡ x ∷ left) (fits : Bool) (m : List A) (put : held fits m ≡ more (held true l) (g x)) where
-      turn : a ≡ more (held fits m) (gather g left)
+    module _ (x : C) (left : List C) (e : rest ≡ x ∷ left) where
+      pub more-skip : g x ≡ [] → a ≡ more (held true l) (gather g left)
       unfolding gather
-      turn = inv ∙ rw (e, more-append (held true l) (g x) (gather g left), put)
+      more-skip q = inv ∙ rw (e, q)
 
-      pub more-on : fits ≡ true → a ≡ more (held true m) (gather g left)
-      more-on f = turn ∙ rw f
+      module _ (fits : Bool) (m : List A) (put : held fits m ≡ more (held true l) (g x)) where
+        turn : a ≡ more (held fits m) (gather g left)
+        unfolding gather
+        turn = inv ∙ rw (e, more-append (held true l) (g x) (gather g left), put)
 
-      pub more-stop : fits ≡ false → held fits m ≡ a
-      unfolding held
-      more-stop f = sym (turn ∙ rw f (more-none (gather g left)))
+        pub more-on : fits ≡ true → a ≡ more (held true m) (gather g left)
+        more-on f = turn ∙ rw f
+
+        pub more-stop : fits ≡ false → held false m ≡ a
+        unfolding held
+        more-stop f = sym (turn ∙ rw f (more-none (gather g left)))

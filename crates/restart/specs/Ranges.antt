@@ -1,6 +1,5 @@
 -- The numbers from k up to e, e itself left out: what a loop that counts has still to go through.
-use Rattle.lists.specs.Basics.{_≡_, refl, List, [], _∷_, ℕ, zero, suc, _+_, _-_, _≤_, _<_, arith, add-one}
-use Rattle.protocol.specs.Parts.{every-chare, every-sender}
+use Rattle.lists.specs.Basics.{_≡_, List, [], _∷_, ℕ, zero, suc, _+_, _-_, _≤_, _<_, arith, add-one}
 
 unfoldable pub count-from : ℕ → ℕ → List ℕ
 count-from zero k = []
@@ -16,11 +15,3 @@ range-next e k h = let q : e - k ≡ suc (e - (k + 1)) = omega arith in rw (q, a
 pub range-past : (e k : ℕ) → e ≤ k → range e k ≡ []
 unfolding range count-from
 range-past e k h = let q : e - k ≡ 0 = omega arith in rw q
-
-pub range-senders : every-sender ≡ range 13 0
-unfolding every-sender every-chare range count-from
-range-senders = refl
-
-pub range-chares : every-chare ≡ range 13 1
-unfolding every-chare range count-from
-range-chares = refl

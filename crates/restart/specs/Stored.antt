@@ -12,12 +12,9 @@ use Rattle.logs.specs.Log as logs
 abbrev pub span : ℕ → ℕ → List ℕ → List ℕ
 span a e xs = part a (e - a) xs
 
--- a part of a part
-part-part : (a n b j : ℕ) (xs : List ℕ) → b + j ≤ n → part b j (part a n xs) ≡ part (a + b) j xs
-part-part a n b j xs h = part-front b j n (drop a xs) h ∙ ap (take j) (drop-drop b a xs)
-
-inner : (a n b e j : ℕ) (xs : List ℕ) → b + j ≤ n → e - (a + b) ≡ j → part b j (part a n xs) ≡ span (a + b) e xs
-inner a n b e j xs h d = part-part a n b j xs h ∙ rw d
+-- a row of the memory at a
+row-in : (a b e : ℕ) (xs : List ℕ) → b + ROW ≤ MEMORY → e - (a + b) ≡ ROW → part b ROW (part a MEMORY xs) ≡ span (a + b) e xs
+row-in a b e xs h d = part-front b ROW MEMORY (drop a xs) h ∙ ap (take ROW) (drop-drop b a xs) ∙ rw d
 
 pub job-at : (xs : List ℕ) → view xs .job ≡ job-of xs
 unfolding view
@@ -25,13 +22,13 @@ job-at xs = refl
 
 module _ (xs : List ℕ) (c : ℕ) (h : c < 13) where
   pub live-log : view xs .live c .log ≡ logs.entries (span (live-from c + LOG) (live-from c + MEMORY) xs)
-  live-log = ap (λ m. m .log) (live-at xs c h) ∙ log-part (part (live-from c) MEMORY xs) ∙ ap logs.entries (inner (live-from c) MEMORY LOG (live-from c + MEMORY) ROW xs (omega arith) (omega arith))
+  live-log = rw (live-at xs c h, log-part, row-in (live-from c) LOG (live-from c + MEMORY) xs (omega arith) (omega arith))
 
   pub copy-log : view xs .copy c .log ≡ logs.entries (span (copy-from c + LOG) (copy-from c + MEMORY) xs)
-  copy-log = ap (λ m. m .log) (copy-at xs c h) ∙ log-part (part (copy-from c) MEMORY xs) ∙ ap logs.entries (inner (copy-from c) MEMORY LOG (copy-from c + MEMORY) ROW xs (omega arith) (omega arith))
+  copy-log = rw (copy-at xs c h, log-part, row-in (copy-from c) LOG (copy-from c + MEMORY) xs (omega arith) (omega arith))
 
   pub copy-table : view xs .copy c .table ≡ tickets.entries (span (copy-from c + TABLE) (copy-from c + LOG) xs)
-  copy-table = ap (λ m. m .table) (copy-at xs c h) ∙ table-part (part (copy-from c) MEMORY xs) ∙ ap tickets.entries (inner (copy-from c) MEMORY TABLE (copy-from c + LOG) ROW xs (omega arith) (omega arith))
+  copy-table = rw (copy-at xs c h, table-part, row-in (copy-from c) TABLE (copy-from c + LOG) xs (omega arith) (omega arith))
 
   pub copy-height : view xs .copy c .height ≡ memory-view (span (copy-from c) (copy-from c + MEMORY) xs) .height
   copy-height = let e : (copy-from c + MEMORY) - copy-from c ≡ MEMORY = omega arith in ap (λ m. m .height) (copy-at xs c h) ∙ rw e

@@ -1,7 +1,8 @@
 -- `change` sets the status, then memories and targets, then the wire.
-use Rattle.lists.specs.Basics.{_+_, length-set, arith, needs}
-use Rattle.head.specs.Head.{STATUS}
-use Rattle.restart.specs.Whole.{change-is}
+use Rattle.lists.specs.Basics.{_+_, _∙_, length-set, arith, needs}
+use Rattle.head.specs.Head.{STATUS, as-status}
+use Rattle.store.specs.ViewLaws.{status-set, wire-put}
+use Rattle.restart.specs.Whole.{back}
 use Rattle.restart.proofs.change.Statement.{statement}
 use Rattle.restart.proofs.change.Tie as tie
 
@@ -18,11 +19,14 @@ same-length c =
     search needs
 
 returns : tie.Need-returns
+unfolding back as-status
 returns c =
     let st = c .before .before .before .before .before .before .before .before .before .before .before in
     let a = st .args in
     let e = length-set (a .s .now) (STATUS + a .p) 2 in
-    change-is (a .s .now) _ (a .rows .now) (a .wire .now) _ (a .p) (st .pre .0) (omega arith) (search needs) (c .before .before .before .before .before .before .all-back .ensures) (st .pre .4) (c .before .before .copy-over .ensures)
+    let b = c .before .before .before .before .before .before .all-back in
+    rw (c .before .before .copy-over .ensures)
+    (wire-put (b .last .0) (search needs) (a .wire .now) (st .pre .4) ∙ rw (b .ensures, status-set (a .s .now) (st .pre .0) 2 (a .p) (omega arith)))
 
 pub change-spec : {M : Type 1} → statement M
 change-spec =

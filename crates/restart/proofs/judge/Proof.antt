@@ -1,13 +1,14 @@
 -- `judge` puts four questions.
-use Rattle.lists.specs.Basics.{needs}
-use Rattle.restart.specs.Judged.{asked-is}
+use Rattle.lists.specs.Basics.{_∙_, needs}
+use Rattle.protocol.specs.Questions.{is-machine}
+use Rattle.store.specs.View.{view}
+use Rattle.restart.specs.Judged.{asked}
 use Rattle.restart.proofs.judge.Statement.{statement}
 use Rattle.restart.proofs.judge.Tie as tie
 
 returns : tie.Need-returns
-returns c =
-    let a = c .before .before .before .before .before .before .args in
-    asked-is (a .s .now) (a .p) _ _ _ _ (c .before .before .before .before .is-set .ensures) (c .before .before .before .is-machine .ensures) (c .before .before .is-lost .ensures) (c .before .is-down .ensures) _ (c .first-no .ensures)
+unfolding asked is-machine view
+returns c = c .first-no .ensures ∙ rw (c .before .before .before .before .is-set .ensures, c .before .before .before .is-machine .ensures, c .before .before .is-lost .ensures, c .before .is-down .ensures)
 
 pub judge-spec : {M : Type 1} → statement M
 judge-spec =

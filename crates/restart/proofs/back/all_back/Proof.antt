@@ -1,7 +1,7 @@
 -- `all_back` goes through the chares. The loop: those below n are back.
-use Rattle.lists.specs.Basics.{_≡_, sym, _∙_, _-_, _≤_, arith, length, needs}
+use Rattle.lists.specs.Basics.{_≡_, _∙_, _-_, _≤_, arith, length, needs}
 use Rattle.store.specs.{Places.STORE, View.view}
-use Rattle.restart.specs.{Stored.job-at, OnMachine.beyond-not-on, Homes.{backs, backs-start, backs-all, loop-more, loop-skip}}
+use Rattle.restart.specs.{OnMachine.{home-at, on-last}, Homes.{backs, backs-start, backs-more, backs-skip, backs-all}}
 use Rattle.restart.proofs.back.all_back.Statement.{statement}
 use Rattle.restart.proofs.back.all_back.Tie as tie
 
@@ -18,10 +18,10 @@ loop-again : tie.Need-loop-again Inv-loop μ-loop
 loop-again c =
     let a = c .before .before .before .before .before .before .before .before .before .before .before .before .args in
     let l = c .before .before .before .before .before .before .before .before .before .loop in
-    let b = c .before .before .come-back in (
+    let here = home-at (l .s) (a .p) (l .n) _ _ (c .before .before .before .before .before .before .on .ensures) (c .before .before .before .before .before .if1 .taken) in (
       search needs,
       search needs,
-      loop-more (view (a .s .now)) (a .p) (a .rows .now) (l .s) (l .n) (l .inv .2) (sym (c .before .before .before .before .before .before .on .ensures) ∙ c .before .before .before .before .before .if1 .taken) _ (b .ensures),
+      backs-more (view (a .s .now)) (a .p) (a .rows .now) (l .s) (l .n) (l .inv .2) here _ (c .before .before .come-back .ensures),
     )
 
 loop-again-2 : tie.Need-loop-again-2 Inv-loop μ-loop
@@ -30,7 +30,7 @@ loop-again-2 c =
     let l = c .before .before .before .before .loop in (
       search needs,
       search needs,
-      loop-skip (view (a .s .now)) (a .p) (a .rows .now) (l .s) (l .n) (l .inv .2) (sym (c .before .on .ensures) ∙ c .if1 .left),
+      backs-skip (view (a .s .now)) (a .p) (a .rows .now) (l .s) (l .n) (l .inv .2) (home-at (l .s) (a .p) (l .n) _ _ (c .before .on .ensures) (c .if1 .left)),
     )
 
 returns : tie.Need-returns Inv-loop μ-loop
@@ -38,7 +38,7 @@ returns c =
     let st = c .before .before .before .before in
     let a = st .args in
     let l = c .before .loop in
-    l .inv .2 ∙ backs-all (view (a .s .now)) (a .p) (a .rows .now) (l .n) (omega arith) (rw (job-at (a .s .now)) (beyond-not-on (a .s .now) (omega arith) (a .p) (st .pre .1)))
+    l .inv .2 ∙ backs-all (view (a .s .now)) (a .p) (a .rows .now) (l .n) (omega arith) (on-last (a .s .now) (omega arith) (a .p) (st .pre .1))
 
 pub all-back-spec : {M : Type 1} → statement M
 all-back-spec =

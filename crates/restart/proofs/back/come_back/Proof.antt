@@ -1,6 +1,6 @@
 -- `come_back` copies the memory, renews it and sets the target.
-use Rattle.lists.specs.Basics.{arith, inr, needs}
-use Rattle.restart.specs.Restored.{back-is, back-length}
+use Rattle.lists.specs.Basics.{arith, inr, length-set, length-append, length-take, length-drop, needs}
+use Rattle.restart.specs.Restored.{back-is}
 use Rattle.tickets.specs.Table.{entries}
 use Rattle.restart.proofs.back.come_back.Statement.{statement}
 use Rattle.restart.proofs.back.come_back.Tie as tie
@@ -9,10 +9,7 @@ copy-requires : tie.Need-copy-requires
 copy-requires c κs = (search needs, search needs, inr (omega arith))
 
 same-length : tie.Need-same-length
-same-length c =
-    let st = c .before .before .before .before .before .before .before .before .before .before in
-    let a = st .args in
-    back-length (a .s .now) (st .pre .0) (a .c) (st .pre .1) (c .before .before .renew .last .0) _ _ (c .before .before .before .before .before .before .copy .ensures) (omega arith)
+same-length c = simp (length-set, length-append, length-take, length-drop) (omega arith)
 
 returns : tie.Need-returns
 returns c =

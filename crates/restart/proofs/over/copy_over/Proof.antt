@@ -1,6 +1,5 @@
 -- `copy_over` copies word by word: i words are there.
-use Rattle.lists.specs.Basics.{_≡_, refl, _-_, _≤_, arith, length, take, length-set, needs}
-use Rattle.restart.specs.Over.{over-one, over-all}
+use Rattle.lists.specs.Basics.{_≡_, refl, sym, _∙_, _-_, _≤_, arith, add-one, length, take, length-set, take-suc, take-suc-set, take-all, needs}
 use Rattle.restart.proofs.over.copy_over.Statement.{statement}
 use Rattle.restart.proofs.over.copy_over.Tie as tie
 
@@ -16,12 +15,13 @@ loop-holds c = (search needs, search needs, refl)
 loop-again : tie.Need-loop-again Inv-loop μ-loop
 loop-again c =
     let l = c .before .before .loop in
-    (search needs, simp length-set (l .inv .1), over-one _ (l .to) (l .i) (l .inv .1) (l .inv .2) (omega arith))
+    let from = c .before .before .before .args .from .now in
+    (search needs, simp length-set (l .inv .1), rw (add-one (l .i), take-suc-set (l .to) (l .i) _ (omega arith), take-suc from (l .i) 0 (omega arith), l .inv .2))
 
 returns : tie.Need-returns Inv-loop μ-loop
 returns c =
     let l = c .before .loop in
-    over-all _ (l .to) (l .i) (l .inv .1) (l .inv .2) (omega arith)
+    sym (take-all (l .i) (l .to) (omega arith)) ∙ l .inv .2 ∙ take-all (l .i) _ (omega arith)
 
 pub copy-over-spec : {M : Type 1} → statement M
 copy-over-spec =

@@ -1,17 +1,20 @@
 -- `from_elsewhere` meets its contract, case by case.
-use Rattle.lists.specs.Basics.{needs}
-use Rattle.restart.specs.Resends.{ask-there, none-there, data-there}
+use Rattle.lists.specs.Basics.{eq-eqb, ne-eqb, lt-ltb, le-ltb, needs}
+use Rattle.restart.specs.Resends.{packets-of, elsewhere}
 use Rattle.restart.proofs.resend.from_elsewhere.Statement.{statement}
 use Rattle.restart.proofs.resend.from_elsewhere.Tie as tie
 
 returns : tie.Need-returns
-returns c = ask-there (c .before .before .args .x) (search needs) (c .before .before .args .h)
+unfolding elsewhere packets-of
+returns c = rw (eq-eqb (c .before .before .args .x .tn) 0 (search needs))
 
 returns-2 : tie.Need-returns-2
-returns-2 c = none-there (c .before .before .before .before .args .x) (search needs) (c .before .before .before .before .args .h) (search needs)
+unfolding elsewhere packets-of
+returns-2 c = let a = c .before .before .before .before .args in rw (ne-eqb (a .x .tn) 0 (search needs), le-ltb (a .h) (a .x .tn) (search needs))
 
 returns-3 : tie.Need-returns-3
-returns-3 c = data-there (c .before .before .before .before .before .args .x) (search needs) (c .before .before .before .before .before .args .h) (search needs)
+unfolding elsewhere packets-of
+returns-3 c = let a = c .before .before .before .before .before .args in rw (ne-eqb (a .x .tn) 0 (search needs), lt-ltb (a .h) (a .x .tn) (search needs))
 
 pub from-elsewhere-spec : {M : Type 1} → statement M
 from-elsewhere-spec = tie.close (tie.spec returns returns-2 returns-3)

@@ -1,8 +1,7 @@
 -- `put` joins the wire where there is room.
 use Rattle.lists.specs.Basics.{arith, needs}
 use Rattle.protocol.specs.Sending.{about}
-use Rattle.restart.specs.Sent.{put-none, put-one, put-full}
-use Rattle.packets.specs.Words.{packets}
+use Rattle.restart.specs.{Limited.more, Resends.packets-of, Sent.{put-one, put-full}}
 use Rattle.restart.proofs.resend.put.Statement.{statement}
 use Rattle.restart.proofs.resend.put.Tie as tie
 
@@ -13,7 +12,8 @@ enum-told : tie.Need-enum-told
 enum-told c = search needs
 
 returns : tie.Need-returns
-returns c = let a = c .before .before .before .args in rw (c .enum-told .given .1) (put-none (a .m) (packets (a .wire .now)))
+unfolding more packets-of
+returns c = rw (c .enum-told .given .1)
 
 count-requires : tie.Need-count-requires
 count-requires c κs = search needs

@@ -1,10 +1,10 @@
 -- `resend_all` goes through the logs. The loop: those from q on are still to be sent.
-use Rattle.lists.specs.Basics.{_≡_, _-_, _≤_, arith, not-true, not-false, length, needs}
+use Rattle.lists.specs.Basics.{_≡_, refl, _-_, _≤_, arith, not-true, not-false, length, needs}
 use Rattle.lists.specs.Lists.{gather}
-use Rattle.protocol.specs.Parts.{every-sender}
+use Rattle.protocol.specs.Parts.{every-chare, every-sender}
 use Rattle.packets.specs.Words.{packets}
 use Rattle.store.specs.{Places.PACKETS, View.view}
-use Rattle.restart.specs.{Ranges.{range, range-next, range-past, range-senders}, Resends.all-again, Sent.{putting, put-end, put-on, put-stop}}
+use Rattle.restart.specs.{Ranges.{count-from, range, range-next, range-past}, Limited.{more-end, more-on, more-stop}, Resends.all-again, Sent.{one-more, putting}}
 use Rattle.restart.proofs.resend.resend_all.Statement.{statement}
 use Rattle.restart.proofs.resend.resend_all.Tie as tie
 
@@ -15,15 +15,16 @@ abbrev μ-loop : tie.MeasureT-loop
 μ-loop s p wire₀ q₀ wire q = 13 - q
 
 loop-holds : tie.Need-loop-holds Inv-loop μ-loop
-loop-holds c = (search needs, search needs, rw range-senders)
+unfolding every-sender every-chare range count-from
+loop-holds c = (search needs, search needs, refl)
 
 returns : tie.Need-returns Inv-loop μ-loop
 returns c =
     let a = c .before .before .before .before .before .before .before .before .before .args in
     let l = c .before .before .before .before .before .before .loop in
     let f = c .before .before .before .resend-from in
-    put-stop (all-again (view (a .s .now)) (a .p)) _ (l .wire) _ (l .inv .2)
-    (l .q) _ (range-next 13 (l .q) (omega arith)) _ (f .result) (f .ensures) (not-true _ (c .if1 .taken))
+    more-stop 128 one-more (all-again (view (a .s .now)) (a .p)) _ (packets (l .wire)) _ (l .inv .2)
+    (l .q) _ (range-next 13 (l .q) (omega arith)) (f .result) _ (f .ensures) (not-true _ (c .if1 .taken))
 
 loop-again : tie.Need-loop-again Inv-loop μ-loop
 loop-again c =
@@ -32,15 +33,15 @@ loop-again c =
     let f = c .before .before .before .resend-from in (
       search needs,
       search needs,
-      put-on (all-again (view (a .s .now)) (a .p)) _ (l .wire) _ (l .inv .2)
-          (l .q) _ (range-next 13 (l .q) (omega arith)) _ (f .result) (f .ensures) (not-false _ (c .if1 .left)),
+      more-on 128 one-more (all-again (view (a .s .now)) (a .p)) _ (packets (l .wire)) _ (l .inv .2)
+          (l .q) _ (range-next 13 (l .q) (omega arith)) (f .result) _ (f .ensures) (not-false _ (c .if1 .left)),
     )
 
 returns-2 : tie.Need-returns-2 Inv-loop μ-loop
 returns-2 c =
     let a = c .before .before .before .before .args in
     let l = c .before .loop in
-    put-end (all-again (view (a .s .now)) (a .p)) _ (l .wire) _ (l .inv .2) (range-past 13 (l .q) (omega arith))
+    more-end 128 one-more (all-again (view (a .s .now)) (a .p)) _ (packets (l .wire)) _ (l .inv .2) (range-past 13 (l .q) (omega arith))
 
 pub resend-all-spec : {M : Type 1} → statement M
 resend-all-spec =

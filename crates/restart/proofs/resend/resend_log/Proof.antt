@@ -1,10 +1,10 @@
 -- `resend_log` goes through a log. The loop: the messages from i on are still to be sent.
-use Rattle.lists.specs.Basics.{_≡_, refl, _-_, _≤_, arith, not-true, not-false, length, drop, needs}
+use Rattle.lists.specs.Basics.{_≡_, refl, _-_, _≤_, arith, not-true, not-false, length, drop, drop-of-length-le, needs}
 use Rattle.lists.specs.Lists.{gather}
-use Rattle.logs.specs.Log.{logged-of, entries as messages}
+use Rattle.logs.specs.{Log.{logged-of, entries as messages}, Fits.at-fits}
 use Rattle.packets.specs.Words.{packets}
 use Rattle.store.specs.{Places.PACKETS, View.view}
-use Rattle.restart.specs.{Gather.{next, past}, Sources.logged-fits, Resends.again, Sent.{putting, put-again, put-end, put-on, put-stop}}
+use Rattle.restart.specs.{Limited.{more-end, more-on, more-stop}, Gather.next, Resends.again, Sent.{one-more, putting, put-again}}
 use Rattle.restart.proofs.resend.resend_log.Statement.{statement}
 use Rattle.restart.proofs.resend.resend_log.Tie as tie
 
@@ -24,9 +24,9 @@ returns c =
     let x = c .before .before .before .before .before .before .at in
     let o = c .before .before .before .before .before .resend in
     let f = c .before .before .before .put in
-    put-stop (again (view (a .s .now)) (a .p) (a .here)) _ (l .wire) _ (l .inv .2)
-    (x .result) _ (next (messages (a .l .now)) (l .i) (x .result) (logged-of 0) (x .ensures) (omega arith)) (f .last .0) (f .result)
-    (put-again (x .result) (logged-fits (a .l .now) (l .i) (x .result) (x .ensures)) (view (a .s .now)) (a .p) (a .here) (o .result) (o .ensures) (packets (l .wire)) _ (f .ensures))
+    more-stop 128 one-more (again (view (a .s .now)) (a .p) (a .here)) _ (packets (l .wire)) _ (l .inv .2)
+    (x .result) _ (next (messages (a .l .now)) (l .i) (x .result) (logged-of 0) (x .ensures) (omega arith)) (f .result) (packets (f .last .0))
+    (put-again (x .result) (rw (x .ensures) (at-fits (a .l .now) (l .i))) (view (a .s .now)) (a .p) (a .here) (o .result) (o .ensures) (packets (l .wire)) _ (f .ensures))
     (not-true _ (c .if1 .taken))
 
 loop-again : tie.Need-loop-again Inv-loop μ-loop
@@ -38,9 +38,9 @@ loop-again c =
     let f = c .before .before .before .put in (
       search needs,
       search needs,
-      put-on (again (view (a .s .now)) (a .p) (a .here)) _ (l .wire) _ (l .inv .2)
-          (x .result) _ (next (messages (a .l .now)) (l .i) (x .result) (logged-of 0) (x .ensures) (omega arith)) (f .last .0) (f .result)
-          (put-again (x .result) (logged-fits (a .l .now) (l .i) (x .result) (x .ensures)) (view (a .s .now)) (a .p) (a .here) (o .result) (o .ensures) (packets (l .wire)) _ (f .ensures))
+      more-on 128 one-more (again (view (a .s .now)) (a .p) (a .here)) _ (packets (l .wire)) _ (l .inv .2)
+          (x .result) _ (next (messages (a .l .now)) (l .i) (x .result) (logged-of 0) (x .ensures) (omega arith)) (f .result) (packets (f .last .0))
+          (put-again (x .result) (rw (x .ensures) (at-fits (a .l .now) (l .i))) (view (a .s .now)) (a .p) (a .here) (o .result) (o .ensures) (packets (l .wire)) _ (f .ensures))
           (not-false _ (c .if1 .left)),
     )
 
@@ -48,7 +48,7 @@ returns-2 : tie.Need-returns-2 Inv-loop μ-loop
 returns-2 c =
     let a = c .before .before .before .before .before .before .args in
     let l = c .before .loop in
-    put-end (again (view (a .s .now)) (a .p) (a .here)) _ (l .wire) _ (l .inv .2) (past (messages (a .l .now)) (l .i) (omega arith))
+    more-end 128 one-more (again (view (a .s .now)) (a .p) (a .here)) _ (packets (l .wire)) _ (l .inv .2) (drop-of-length-le (messages (a .l .now)) {i = l .i} (omega arith))
 
 pub resend-log-spec : {M : Type 1} → statement M
 resend-log-spec =

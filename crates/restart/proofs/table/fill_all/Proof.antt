@@ -1,10 +1,10 @@
 -- `fill_all` goes through the copied logs. The loop: those from q on still fill.
 use Rattle.lists.specs.Basics.{_≡_, refl, sym, _∙_, _-_, _≤_, arith, length, needs}
-use Rattle.lists.specs.Lists.{gather}
-use Rattle.protocol.specs.{Parts.every-chare, Restart.local-log}
+use Rattle.lists.specs.Lists.{keep, gather}
+use Rattle.protocol.specs.{Parts.every-chare, Restart.{fill-all, local-log}}
 use Rattle.tickets.specs.Table.{entries}
 use Rattle.store.specs.View.{view}
-use Rattle.restart.specs.{Fills.{filling, fill-on, fill-skip, fill-end}, Ranges.{range, range-next, range-past, range-chares}, Sources.{local-here, local-there}}
+use Rattle.restart.specs.{Fills.{filling, filling-append}, Ranges.{count-from, range, range-next, range-past}, Stored.copy-log, OnMachine.home-at}
 use Rattle.restart.proofs.table.fill_all.Statement.{statement}
 use Rattle.restart.proofs.table.fill_all.Tie as tie
 
@@ -15,39 +15,33 @@ abbrev μ-loop : tie.MeasureT-loop
 μ-loop row₀ s p c h q₀ row q = 13 - q
 
 loop-holds : tie.Need-loop-holds Inv-loop μ-loop
-loop-holds c = let a = c .before .before .args in (search needs, search needs, refl, rw range-chares)
+unfolding every-chare range count-from
+loop-holds c = (search needs, search needs, refl, refl)
 
 loop-again : tie.Need-loop-again Inv-loop μ-loop
+unfolding gather local-log
 loop-again c =
     let a = c .before .before .before .before .before .before .before .before .before .before .before .args in
     let l = c .before .before .before .before .before .before .before .before .loop in
     let f = c .before .before .fill-from in
-    let here = sym (c .before .before .before .before .before .before .on .ensures) ∙ c .before .before .before .before .before .if1 .taken in (
+    let here = home-at (a .s .now) (a .p) (l .q) _ _ (c .before .before .before .before .before .before .on .ensures) (c .before .before .before .before .before .if1 .taken) in (
       search needs,
       search needs,
       search needs,
-      fill-on (a .c) (a .h) (local-log (view (a .s .now)) (a .p)) _ (entries (l .row)) _ (l .inv .3)
-          (l .q) _ (range-next 13 (l .q) (omega arith)) (entries (f .last .0))
-          (rw (local-here (a .s .now) (a .p) (l .q) (omega arith) here) (f .ensures)),
+      l .inv .3 ∙ rw (range-next 13 (l .q) (omega arith), here, copy-log (a .s .now) (l .q) (omega arith), filling-append, f .ensures),
     )
 
 loop-again-2 : tie.Need-loop-again-2 Inv-loop μ-loop
+unfolding gather local-log
 loop-again-2 c =
     let a = c .before .before .before .before .before .before .args in
     let l = c .before .before .before .loop in
-    let there = sym (c .before .on .ensures) ∙ c .if1 .left in (
-      search needs,
-      search needs,
-      search needs,
-      fill-skip (a .c) (a .h) (local-log (view (a .s .now)) (a .p)) _ (entries (l .row)) _ (l .inv .3)
-          (l .q) _ (range-next 13 (l .q) (omega arith)) (local-there (a .s .now) (a .p) (l .q) there),
-    )
+    let there = home-at (a .s .now) (a .p) (l .q) _ _ (c .before .on .ensures) (c .if1 .left) in
+    (search needs, search needs, search needs, l .inv .3 ∙ rw (range-next 13 (l .q) (omega arith), there))
 
 returns : tie.Need-returns Inv-loop μ-loop
-returns c =
-    let a = c .before .before .before .before .args in
-    let l = c .before .loop in
-    fill-end (a .c) (a .h) (local-log (view (a .s .now)) (a .p)) _ (entries (l .row)) _ (l .inv .3) (range-past 13 (l .q) (omega arith))
+unfolding gather filling keep fill-all
+returns c = let l = c .before .loop in sym (l .inv .3 ∙ rw (range-past 13 (l .q) (omega arith)))
 
 pub fill-all-spec : {M : Type 1} → statement M
 fill-all-spec =

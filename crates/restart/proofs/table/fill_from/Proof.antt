@@ -1,8 +1,10 @@
 -- `fill_from` fills from a log. The loop: the messages from i on still fill.
-use Rattle.lists.specs.Basics.{_≡_, refl, sym, _∙_, _-_, _≤_, arith, length, drop, needs}
-use Rattle.restart.specs.{Sources.logged-fits, Gather.{next, past}, Fills.{filling, filled-on, filled-skip, filled-end}}
+use Rattle.lists.specs.Basics.{_≡_, refl, sym, _∙_, _-_, _≤_, _<_, arith, mod-eq-of-lt, length, drop, drop-of-length-le, needs}
+use Rattle.restart.specs.{Gather.next, Fills.filling}
+use Rattle.lists.specs.Lists.{keep}
+use Rattle.protocol.specs.Restart.{fill-all}
 use Rattle.tickets.specs.Table.{entries}
-use Rattle.logs.specs.Log.{entries as messages, logged-of}
+use Rattle.logs.specs.{Log.{entries as messages, logged-of}, Fits.at-fits}
 use Rattle.restart.proofs.table.fill_from.Statement.{statement}
 use Rattle.restart.proofs.table.fill_from.Tie as tie
 
@@ -16,34 +18,33 @@ loop-holds : tie.Need-loop-holds Inv-loop μ-loop
 loop-holds c = (search needs, refl, refl)
 
 loop-again : tie.Need-loop-again Inv-loop μ-loop
+unfolding filling keep fill-all
 loop-again c =
     let a = c .before .before .before .before .before .before .before .before .before .before .before .before .before .args in
     let l = c .before .before .before .before .before .before .before .before .before .loop in
     let x = c .before .before .before .before .before .before .before .at in
-    let e = c .before .before .fill in (
+    let above = sym (c .before .before .before .before .before .before .is-above .ensures) ∙ c .before .before .before .before .before .if1 .taken in
+    let small : x .result .message .hops < 8 = rw (x .ensures) (at-fits (a .l .now) (l .i) .hops) in (
       search needs,
       search needs,
-      filled-on (a .c) (a .h) _ (entries (l .row)) _ (l .inv .2)
-          (x .result) _ (next (messages (a .l .now)) (l .i) (x .result) (logged-of 0) (x .ensures) (omega arith))
-          (sym (c .before .before .before .before .before .before .is-above .ensures) ∙ c .before .before .before .before .before .if1 .taken) (logged-fits (a .l .now) (l .i) (x .result) (x .ensures) .hops) (entries (e .last .0)) (e .ensures),
+      l .inv .2 ∙ rw (next (messages (a .l .now)) (l .i) (x .result) (logged-of 0) (x .ensures) (omega arith), above, c .before .before .fill .ensures, mod-eq-of-lt small),
     )
 
 loop-again-2 : tie.Need-loop-again-2 Inv-loop μ-loop
+unfolding filling keep
 loop-again-2 c =
     let a = c .before .before .before .before .before .before .before .before .args in
     let l = c .before .before .before .before .loop in
-    let x = c .before .before .at in (
-      search needs,
-      search needs,
-      filled-skip (a .c) (a .h) _ (entries (l .row)) _ (l .inv .2)
-          (x .result) _ (next (messages (a .l .now)) (l .i) (x .result) (logged-of 0) (x .ensures) (omega arith)) (sym (c .before .is-above .ensures) ∙ c .if1 .left),
-    )
+    let x = c .before .before .at in
+    let below = sym (c .before .is-above .ensures) ∙ c .if1 .left in
+    (search needs, search needs, l .inv .2 ∙ rw (next (messages (a .l .now)) (l .i) (x .result) (logged-of 0) (x .ensures) (omega arith), below))
 
 returns : tie.Need-returns Inv-loop μ-loop
+unfolding filling keep fill-all
 returns c =
     let a = c .before .before .before .before .before .args in
     let l = c .before .loop in
-    filled-end (a .c) (a .h) _ (entries (l .row)) _ (l .inv .2) (past (messages (a .l .now)) (l .i) (omega arith))
+    sym (l .inv .2 ∙ rw (drop-of-length-le (messages (a .l .now)) {i = l .i} (omega arith)))
 
 pub fill-from-spec : {M : Type 1} → statement M
 fill-from-spec =

@@ -1,8 +1,9 @@
 -- `from_copy` enters the tickets of a copy. The loop: the entries from i on are still to be entered.
-use Rattle.lists.specs.Basics.{not-true, not-false, _≡_, refl, _-_, _≤_, arith, length, drop, needs}
-use Rattle.restart.specs.{Gather.{next, past}, Tables.{entering, ticket-on, ticket-stop, enter-end}, Sources.{copied, copied-is, sender-fits}}
+use Rattle.lists.specs.Basics.{not-true, not-false, _≡_, refl, _-_, _≤_, arith, length, drop, drop-of-length-le, needs}
+use Rattle.restart.specs.{Gather.next, Limited.{more-end, more-on, more-stop}, Tables.{entering, entering-one}, Sources.copied}
 use Rattle.lists.specs.Lists.{gather}
-use Rattle.tickets.specs.Table.{entries, entry-of}
+use Rattle.protocol.specs.Restart.{enter, copied-ticket}
+use Rattle.tickets.specs.{Table.{entries, entry-of}, EntryLaws.sender-small, Fits.entry-at}
 use Rattle.memory.specs.Places.{ROW}
 use Rattle.restart.proofs.table.from_copy.Statement.{statement}
 use Rattle.restart.proofs.table.from_copy.Tie as tie
@@ -17,17 +18,19 @@ loop-holds : tie.Need-loop-holds Inv-loop μ-loop
 loop-holds c = (search needs, search needs, refl)
 
 returns : tie.Need-returns Inv-loop μ-loop
+unfolding copied copied-ticket
 returns c =
     let a = c .before .before .before .before .before .before .before .before .before .before .before .args in
     let l = c .before .before .before .before .before .before .before .loop in
     let x = c .before .before .before .before .before .at in
     let e = c .before .before .before .enter-once in
-    ticket-stop copied _ (l .row) _ (l .inv .2)
+    more-stop 16 enter copied _ (entries (l .row)) _ (l .inv .2)
     (x .result) _ (next (entries (a .t .now)) (l .i) (x .result) (entry-of 0) (x .ensures) (omega arith))
-    (l .inv .1) _ _ _ (sender-fits (a .t .now) (l .i) (x .result) (x .ensures)) (copied-is (x .result))
-    (e .last .0) (e .result) (e .ensures) (not-true _ (c .if1 .taken))
+    (e .result) (entries (e .last .0))
+    (entering-one (l .row) (e .last .0) (x .result .sender) _ _ (e .result) (l .inv .1) (rw (x .ensures, entry-at (a .t .now) (l .i)) (sender-small _)) (e .ensures)) (not-true _ (c .if1 .taken))
 
 loop-again : tie.Need-loop-again Inv-loop μ-loop
+unfolding copied copied-ticket
 loop-again c =
     let a = c .before .before .before .before .before .before .before .before .before .before .before .args in
     let l = c .before .before .before .before .before .before .before .loop in
@@ -35,17 +38,17 @@ loop-again c =
     let e = c .before .before .before .enter-once in (
       search needs,
       search needs,
-      ticket-on copied _ (l .row) _ (l .inv .2)
+      more-on 16 enter copied _ (entries (l .row)) _ (l .inv .2)
           (x .result) _ (next (entries (a .t .now)) (l .i) (x .result) (entry-of 0) (x .ensures) (omega arith))
-          (l .inv .1) _ _ _ (sender-fits (a .t .now) (l .i) (x .result) (x .ensures)) (copied-is (x .result))
-          (e .last .0) (e .result) (e .ensures) (not-false _ (c .if1 .left)),
+          (e .result) (entries (e .last .0))
+          (entering-one (l .row) (e .last .0) (x .result .sender) _ _ (e .result) (l .inv .1) (rw (x .ensures, entry-at (a .t .now) (l .i)) (sender-small _)) (e .ensures)) (not-false _ (c .if1 .left)),
     )
 
 returns-2 : tie.Need-returns-2 Inv-loop μ-loop
 returns-2 c =
     let a = c .before .before .before .before .before .args in
     let l = c .before .loop in
-    enter-end copied _ (l .row) _ (l .inv .2) (past (entries (a .t .now)) (l .i) (omega arith))
+    more-end 16 enter copied _ (entries (l .row)) _ (l .inv .2) (drop-of-length-le (entries (a .t .now)) {i = l .i} (omega arith))
 
 pub from-copy-spec : {M : Type 1} → statement M
 from-copy-spec =

@@ -1,10 +1,11 @@
 -- `from_log` enters the tickets of a log. The loop: the messages from i on are still to be entered.
-use Rattle.lists.specs.Basics.{not-true, not-false, _≡_, refl, sym, _∙_, _-_, _≤_, arith, length, drop, needs}
-use Rattle.restart.specs.{Gather.{next, past}, Tables.{entering, ticket-on, ticket-stop, enter-skip, enter-end}, Sources.{logged, logged-in, logged-out, logged-fits}}
+use Rattle.lists.specs.Basics.{not-true, not-false, _≡_, refl, sym, _∙_, _-_, _≤_, arith, length, drop, drop-of-length-le, needs}
+use Rattle.restart.specs.{Gather.{chosen, next}, Limited.{more-end, more-skip, more-on, more-stop}, Tables.{entering, entering-one}, Sources.logged}
 use Rattle.lists.specs.Lists.{gather}
+use Rattle.protocol.specs.Restart.{enter, logged-ticket}
 use Rattle.tickets.specs.Table.{entries}
 use Rattle.memory.specs.Places.{ROW}
-use Rattle.logs.specs.Log.{entries as messages, logged-of}
+use Rattle.logs.specs.{Log.{entries as messages, logged-of}, Fits.at-fits}
 use Rattle.restart.proofs.table.from_log.Statement.{statement}
 use Rattle.restart.proofs.table.from_log.Tie as tie
 
@@ -18,17 +19,19 @@ loop-holds : tie.Need-loop-holds Inv-loop μ-loop
 loop-holds c = (search needs, search needs, refl)
 
 returns : tie.Need-returns Inv-loop μ-loop
+unfolding logged logged-ticket chosen
 returns c =
     let a = c .before .before .before .before .before .before .before .before .before .before .before .before .before .before .args in
     let l = c .before .before .before .before .before .before .before .before .before .before .loop in
     let x = c .before .before .before .before .before .before .before .before .at in
     let e = c .before .before .before .enter-once in
-    ticket-stop (logged (a .c) (a .h)) _ (l .row) _ (l .inv .2)
+    more-stop 16 enter (logged (a .c) (a .h)) _ (entries (l .row)) _ (l .inv .2)
     (x .result) _ (next (messages (a .l .now)) (l .i) (x .result) (logged-of 0) (x .ensures) (omega arith))
-    (l .inv .1) _ _ _ (logged-fits (a .l .now) (l .i) (x .result) (x .ensures) .sender) (logged-in (a .c) (a .h) (x .result) (sym (c .before .before .before .before .before .before .before .is-above .ensures) ∙ c .before .before .before .before .before .before .if1 .taken))
-    (e .last .0) (e .result) (e .ensures) (not-true _ (c .if2 .taken))
+    (e .result) (entries (e .last .0))
+    (rw (sym (c .before .before .before .before .before .before .before .is-above .ensures) ∙ c .before .before .before .before .before .before .if1 .taken) (entering-one (l .row) (e .last .0) (x .result .message .sender) _ _ (e .result) (l .inv .1) (rw (x .ensures) (at-fits (a .l .now) (l .i) .sender)) (e .ensures))) (not-true _ (c .if2 .taken))
 
 loop-again : tie.Need-loop-again Inv-loop μ-loop
+unfolding logged logged-ticket chosen
 loop-again c =
     let a = c .before .before .before .before .before .before .before .before .before .before .before .before .before .before .args in
     let l = c .before .before .before .before .before .before .before .before .before .before .loop in
@@ -36,28 +39,29 @@ loop-again c =
     let e = c .before .before .before .enter-once in (
       search needs,
       search needs,
-      ticket-on (logged (a .c) (a .h)) _ (l .row) _ (l .inv .2)
+      more-on 16 enter (logged (a .c) (a .h)) _ (entries (l .row)) _ (l .inv .2)
           (x .result) _ (next (messages (a .l .now)) (l .i) (x .result) (logged-of 0) (x .ensures) (omega arith))
-          (l .inv .1) _ _ _ (logged-fits (a .l .now) (l .i) (x .result) (x .ensures) .sender) (logged-in (a .c) (a .h) (x .result) (sym (c .before .before .before .before .before .before .before .is-above .ensures) ∙ c .before .before .before .before .before .before .if1 .taken))
-          (e .last .0) (e .result) (e .ensures) (not-false _ (c .if2 .left)),
+          (e .result) (entries (e .last .0))
+          (rw (sym (c .before .before .before .before .before .before .before .is-above .ensures) ∙ c .before .before .before .before .before .before .if1 .taken) (entering-one (l .row) (e .last .0) (x .result .message .sender) _ _ (e .result) (l .inv .1) (rw (x .ensures) (at-fits (a .l .now) (l .i) .sender)) (e .ensures))) (not-false _ (c .if2 .left)),
     )
 
 loop-again-2 : tie.Need-loop-again-2 Inv-loop μ-loop
+unfolding logged chosen
 loop-again-2 c =
     let a = c .before .before .before .before .before .before .before .before .args in
     let l = c .before .before .before .before .loop in
     let x = c .before .before .at in (
       search needs,
       search needs,
-      enter-skip (logged (a .c) (a .h)) _ (l .row) _ (l .inv .2)
-          (x .result) _ (next (messages (a .l .now)) (l .i) (x .result) (logged-of 0) (x .ensures) (omega arith)) (logged-out (a .c) (a .h) (x .result) (sym (c .before .is-above .ensures) ∙ c .if1 .left)),
+      more-skip 16 enter (logged (a .c) (a .h)) _ (entries (l .row)) _ (l .inv .2)
+          (x .result) _ (next (messages (a .l .now)) (l .i) (x .result) (logged-of 0) (x .ensures) (omega arith)) (rw (sym (c .before .is-above .ensures) ∙ c .if1 .left)),
     )
 
 returns-2 : tie.Need-returns-2 Inv-loop μ-loop
 returns-2 c =
     let a = c .before .before .before .before .before .args in
     let l = c .before .loop in
-    enter-end (logged (a .c) (a .h)) _ (l .row) _ (l .inv .2) (past (messages (a .l .now)) (l .i) (omega arith))
+    more-end 16 enter (logged (a .c) (a .h)) _ (entries (l .row)) _ (l .inv .2) (drop-of-length-le (messages (a .l .now)) {i = l .i} (omega arith))
 
 pub from-log-spec : {M : Type 1} → statement M
 from-log-spec =

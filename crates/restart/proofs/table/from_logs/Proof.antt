@@ -1,12 +1,12 @@
 -- `from_logs` goes through the logs. The loop: those from q on are still to be entered.
-use Rattle.lists.specs.Basics.{_≡_, sym, _∙_, _-_, _≤_, arith, not-true, not-false, length, needs}
+use Rattle.lists.specs.Basics.{_≡_, refl, _-_, _≤_, arith, not-true, not-false, length, needs}
 use Rattle.lists.specs.Lists.{gather}
-use Rattle.protocol.specs.Parts.{every-sender}
+use Rattle.protocol.specs.{Parts.{every-chare, every-sender}, Restart.{enter, other-log}}
 use Rattle.tickets.specs.Table.{entries}
 use Rattle.memory.specs.Places.{ROW}
 use Rattle.store.specs.View.{view}
-use Rattle.restart.specs.{Tables.{entering, enter-on, enter-stop, enter-skip, enter-end}, Ranges.{range, range-next, range-past, range-senders}}
-use Rattle.restart.specs.{Sources.{sender-tickets, sender-here, sender-there}}
+use Rattle.restart.specs.{Limited.{more-end, more-skip, more-on, more-stop}, Tables.entering, Ranges.{count-from, range, range-next, range-past}}
+use Rattle.restart.specs.{Sources.sender-tickets, Stored.live-log, OnMachine.home-at}
 use Rattle.restart.proofs.table.from_logs.Statement.{statement}
 use Rattle.restart.proofs.table.from_logs.Tie as tie
 
@@ -17,49 +17,53 @@ abbrev μ-loop : tie.MeasureT-loop
 μ-loop row₀ s p c h q₀ row q = 13 - q
 
 loop-holds : tie.Need-loop-holds Inv-loop μ-loop
-loop-holds c = let a = c .before .before .args in (search needs, search needs, rw range-senders)
+unfolding every-sender every-chare range count-from
+loop-holds c = (search needs, search needs, refl)
 
 returns : tie.Need-returns Inv-loop μ-loop
+unfolding sender-tickets other-log
 returns c =
     let a = c .before .before .before .before .before .before .before .before .before .before .before .before .args in
     let l = c .before .before .before .before .before .before .before .before .before .loop in
     let f = c .before .before .before .from-log in
-    let there = sym (c .before .before .before .before .before .before .before .on .ensures) ∙ not-true _ (c .before .before .before .before .before .before .if1 .taken) in
-    enter-stop (sender-tickets (view (a .s .now)) (a .p) (a .c) (a .h)) _ (l .row) _ (l .inv .2)
-    (l .q) _ (range-next 13 (l .q) (omega arith)) (f .last .0) (f .result)
-    (rw (sender-there (a .s .now) (a .p) (l .q) (omega arith) there (a .c) (a .h)) (f .ensures))
+    let there = home-at (a .s .now) (a .p) (l .q) _ _ (c .before .before .before .before .before .before .before .on .ensures) (not-true _ (c .before .before .before .before .before .before .if1 .taken)) in
+    more-stop 16 enter (sender-tickets (view (a .s .now)) (a .p) (a .c) (a .h)) _ (entries (l .row)) _ (l .inv .2)
+    (l .q) _ (range-next 13 (l .q) (omega arith)) (f .result) (entries (f .last .0))
+    (rw (there, live-log (a .s .now) (l .q) (omega arith)) (f .ensures))
     (not-true _ (c .if2 .taken))
 
 loop-again : tie.Need-loop-again Inv-loop μ-loop
+unfolding sender-tickets other-log
 loop-again c =
     let a = c .before .before .before .before .before .before .before .before .before .before .before .before .args in
     let l = c .before .before .before .before .before .before .before .before .before .loop in
     let f = c .before .before .before .from-log in
-    let there = sym (c .before .before .before .before .before .before .before .on .ensures) ∙ not-true _ (c .before .before .before .before .before .before .if1 .taken) in (
+    let there = home-at (a .s .now) (a .p) (l .q) _ _ (c .before .before .before .before .before .before .before .on .ensures) (not-true _ (c .before .before .before .before .before .before .if1 .taken)) in (
       search needs,
       search needs,
-      enter-on (sender-tickets (view (a .s .now)) (a .p) (a .c) (a .h)) _ (l .row) _ (l .inv .2)
-          (l .q) _ (range-next 13 (l .q) (omega arith)) (f .last .0) (f .result)
-          (rw (sender-there (a .s .now) (a .p) (l .q) (omega arith) there (a .c) (a .h)) (f .ensures))
+      more-on 16 enter (sender-tickets (view (a .s .now)) (a .p) (a .c) (a .h)) _ (entries (l .row)) _ (l .inv .2)
+          (l .q) _ (range-next 13 (l .q) (omega arith)) (f .result) (entries (f .last .0))
+          (rw (there, live-log (a .s .now) (l .q) (omega arith)) (f .ensures))
           (not-false _ (c .if2 .left)),
     )
 
 loop-again-2 : tie.Need-loop-again-2 Inv-loop μ-loop
+unfolding sender-tickets other-log gather
 loop-again-2 c =
     let a = c .before .before .before .before .before .before .args in
     let l = c .before .before .before .loop in
-    let here = sym (c .before .on .ensures) ∙ not-false _ (c .if1 .left) in (
+    let here = home-at (a .s .now) (a .p) (l .q) _ _ (c .before .on .ensures) (not-false _ (c .if1 .left)) in (
       search needs,
       search needs,
-      enter-skip (sender-tickets (view (a .s .now)) (a .p) (a .c) (a .h)) _ (l .row) _ (l .inv .2)
-          (l .q) _ (range-next 13 (l .q) (omega arith)) (sender-here (a .s .now) (a .p) (l .q) here (a .c) (a .h)),
+      more-skip 16 enter (sender-tickets (view (a .s .now)) (a .p) (a .c) (a .h)) _ (entries (l .row)) _ (l .inv .2)
+          (l .q) _ (range-next 13 (l .q) (omega arith)) (rw here),
     )
 
 returns-2 : tie.Need-returns-2 Inv-loop μ-loop
 returns-2 c =
     let a = c .before .before .before .before .args in
     let l = c .before .loop in
-    enter-end (sender-tickets (view (a .s .now)) (a .p) (a .c) (a .h)) _ (l .row) _ (l .inv .2) (range-past 13 (l .q) (omega arith))
+    more-end 16 enter (sender-tickets (view (a .s .now)) (a .p) (a .c) (a .h)) _ (entries (l .row)) _ (l .inv .2) (range-past 13 (l .q) (omega arith))
 
 pub from-logs-spec : {M : Type 1} → statement M
 from-logs-spec =

@@ -1,11 +1,11 @@
 -- `from_notes` enters the notes. The loop: those from i on are still to be entered.
-use Rattle.lists.specs.Basics.{not-true, not-false, _≡_, refl, _-_, _≤_, arith, length, drop, needs}
-use Rattle.restart.specs.{Gather.{next, past}, Tables.{entering, ticket-on, ticket-stop, enter-skip, enter-end}}
-use Rattle.restart.specs.{Sources.{noted, noted-in, noted-other, noted-below, noted-fits}}
+use Rattle.lists.specs.Basics.{not-true, not-false, _≡_, refl, _-_, _≤_, arith, eq-eqb, ne-eqb, lt-ltb, le-ltb, length, drop, drop-of-length-le, needs}
+use Rattle.restart.specs.{Gather.{chosen, next}, Limited.{more-end, more-skip, more-on, more-stop}, Tables.{entering, entering-one}, Sources.noted}
 use Rattle.lists.specs.Lists.{gather}
+use Rattle.protocol.specs.Restart.{enter, noted-ticket, is-noted-above}
 use Rattle.tickets.specs.Table.{entries}
 use Rattle.memory.specs.Places.{ROW}
-use Rattle.notelist.specs.Notes.{notes, note-of}
+use Rattle.notelist.specs.{Notes.{notes, note-of}, Fits.at-fits}
 use Rattle.restart.proofs.table.from_notes.Statement.{statement}
 use Rattle.restart.proofs.table.from_notes.Tie as tie
 
@@ -19,17 +19,20 @@ loop-holds : tie.Need-loop-holds Inv-loop μ-loop
 loop-holds c = (search needs, search needs, refl)
 
 returns : tie.Need-returns Inv-loop μ-loop
+unfolding noted noted-ticket chosen is-noted-above
 returns c =
     let a = c .before .before .before .before .before .before .before .before .before .before .before .before .before .before .before .args in
     let l = c .before .before .before .before .before .before .before .before .before .before .before .loop in
     let x = c .before .before .before .before .before .before .before .before .before .at in
     let e = c .before .before .before .enter-once in
-    ticket-stop (noted (a .c) (a .h)) _ (l .row) _ (l .inv .2)
+    more-stop 16 enter (noted (a .c) (a .h)) _ (entries (l .row)) _ (l .inv .2)
     (x .result) _ (next (notes (a .w .now)) (l .i) (x .result) (note-of 0) (x .ensures) (omega arith))
-    (l .inv .1) _ _ _ (noted-fits (a .w .now) (l .i) (x .result) (x .ensures) .sender) (noted-in (a .c) (a .h) (x .result) (search needs) (search needs))
-    (e .last .0) (e .result) (e .ensures) (not-true _ (c .if3 .taken))
+    (e .result) (entries (e .last .0))
+    (rw (eq-eqb (x .result .receiver) (a .c) (search needs), lt-ltb (a .h) (x .result .tn) (search needs))
+    (entering-one (l .row) (e .last .0) (x .result .sender) _ _ (e .result) (l .inv .1) (rw (x .ensures) (at-fits (a .w .now) (l .i) .sender)) (e .ensures))) (not-true _ (c .if3 .taken))
 
 loop-again : tie.Need-loop-again Inv-loop μ-loop
+unfolding noted noted-ticket chosen is-noted-above
 loop-again c =
     let a = c .before .before .before .before .before .before .before .before .before .before .before .before .before .before .before .args in
     let l = c .before .before .before .before .before .before .before .before .before .before .before .loop in
@@ -37,39 +40,42 @@ loop-again c =
     let e = c .before .before .before .enter-once in (
       search needs,
       search needs,
-      ticket-on (noted (a .c) (a .h)) _ (l .row) _ (l .inv .2)
+      more-on 16 enter (noted (a .c) (a .h)) _ (entries (l .row)) _ (l .inv .2)
           (x .result) _ (next (notes (a .w .now)) (l .i) (x .result) (note-of 0) (x .ensures) (omega arith))
-          (l .inv .1) _ _ _ (noted-fits (a .w .now) (l .i) (x .result) (x .ensures) .sender) (noted-in (a .c) (a .h) (x .result) (search needs) (search needs))
-          (e .last .0) (e .result) (e .ensures) (not-false _ (c .if3 .left)),
+          (e .result) (entries (e .last .0))
+          (rw (eq-eqb (x .result .receiver) (a .c) (search needs), lt-ltb (a .h) (x .result .tn) (search needs))
+          (entering-one (l .row) (e .last .0) (x .result .sender) _ _ (e .result) (l .inv .1) (rw (x .ensures) (at-fits (a .w .now) (l .i) .sender)) (e .ensures))) (not-false _ (c .if3 .left)),
     )
 
 loop-again-2 : tie.Need-loop-again-2 Inv-loop μ-loop
+unfolding noted chosen is-noted-above
 loop-again-2 c =
     let a = c .before .before .before .before .before .before .before .before .before .before .args in
     let l = c .before .before .before .before .before .before .loop in
     let x = c .before .before .before .before .at in (
       search needs,
       search needs,
-      enter-skip (noted (a .c) (a .h)) _ (l .row) _ (l .inv .2)
-          (x .result) _ (next (notes (a .w .now)) (l .i) (x .result) (note-of 0) (x .ensures) (omega arith)) (noted-below (a .c) (a .h) (x .result) (search needs) (search needs)),
+      more-skip 16 enter (noted (a .c) (a .h)) _ (entries (l .row)) _ (l .inv .2)
+          (x .result) _ (next (notes (a .w .now)) (l .i) (x .result) (note-of 0) (x .ensures) (omega arith)) (rw (eq-eqb (x .result .receiver) (a .c) (search needs), le-ltb (a .h) (x .result .tn) (search needs))),
     )
 
 loop-again-3 : tie.Need-loop-again-3 Inv-loop μ-loop
+unfolding noted chosen is-noted-above
 loop-again-3 c =
     let a = c .before .before .before .before .before .before .before .before .args in
     let l = c .before .before .before .before .loop in
     let x = c .before .before .at in (
       search needs,
       search needs,
-      enter-skip (noted (a .c) (a .h)) _ (l .row) _ (l .inv .2)
-          (x .result) _ (next (notes (a .w .now)) (l .i) (x .result) (note-of 0) (x .ensures) (omega arith)) (noted-other (a .c) (a .h) (x .result) (search needs)),
+      more-skip 16 enter (noted (a .c) (a .h)) _ (entries (l .row)) _ (l .inv .2)
+          (x .result) _ (next (notes (a .w .now)) (l .i) (x .result) (note-of 0) (x .ensures) (omega arith)) (rw (ne-eqb (x .result .receiver) (a .c) (search needs))),
     )
 
 returns-2 : tie.Need-returns-2 Inv-loop μ-loop
 returns-2 c =
     let a = c .before .before .before .before .before .args in
     let l = c .before .loop in
-    enter-end (noted (a .c) (a .h)) _ (l .row) _ (l .inv .2) (past (notes (a .w .now)) (l .i) (omega arith))
+    more-end 16 enter (noted (a .c) (a .h)) _ (entries (l .row)) _ (l .inv .2) (drop-of-length-le (notes (a .w .now)) {i = l .i} (omega arith))
 
 pub from-notes-spec : {M : Type 1} → statement M
 from-notes-spec =
