@@ -1,11 +1,11 @@
 -- Frame 10: the desk's message. From 7 on its questions are those of one send.
-use Rattle.lists.specs.Basics.{_≡_, sym, _∙_, Bool, true, not, _&&_, List, [], _∷_, _++_, ℕ, _<_, arith, leb-true, leb}
+use Rattle.lists.specs.Basics.{_≡_, sym, _∙_, Bool, true, not, _&&_, and-true, List, [], _∷_, _++_, ℕ, _<_, arith, leb-true, leb}
 use Rattle.lists.specs.{Questions.{asks, first-no, first-no-yes}, Tests.{and-l, and-r}}
 use Rattle.protocol.specs.{declared.Answer.the-variants.{Accepted, Refused}, Frames.between, Parts.State}
 use Rattle.protocol.specs.{Questions.{inject-questions, is-chare, numbers-fit, window-admits, log-has-room, table-has-room, put-to-all}, Sending.{send, send-all}, Step.Outcome}
 use Rattle.head.specs.Head.{job-of, lost-of}
 use Rattle.store.specs.{View.{view, tried, Framed}, Framing.{refuses as refused, accepts as accepted}}
-use Rattle.sends.specs.{Made.{Made, sends-made, sends-refused}, Sends.{sends-questions, tried-sends, and-true}, Verdict.{stopped, passed}, Reading.chare-in}
+use Rattle.sends.specs.{Made.{Made, sends-made, sends-refused}, Sends.{sends-questions, tried-sends}, Verdict.{stopped, passed}, Reading.chare-in}
 
 -- 2 to 5
 unfoldable pub desk-questions : State → ℕ → ℕ → List Bool
