@@ -1,10 +1,10 @@
 -- What a plan says: the definitions' answers on its send, and what the send does.
 use Rattle.lists.specs.Basics.{_≡_, refl, _∙_, true, false, Option, some, none, ℕ, _+_, arith, add-one, ltb, leb, length}
 use Rattle.lists.specs.{Tests.{either, true-not-false}, Map.upd-self}
-use Rattle.protocol.specs.{declared.Entry.Entry, Parts.State, Window.admitted, Tickets.{entry, new-tn}}
+use Rattle.protocol.specs.{declared.Entry.Entry, Parts.State, Tickets.{entry, new-tn}}
 use Rattle.protocol.specs.{Sending.{is-local, send, send-message, send-remote, send-local, put, log-message, next-message}}
 use Rattle.protocol.specs.{Questions.{numbers-fit, window-admits, table-has-room, takes-ticket, no-entry, sn-to-send}}
-use Rattle.sends.specs.{declared.ticket.Ticket.Ticket, declared.ticket.Ticket.the-variants.{Remote, Found, New, TooHigh}, declared.plan.Plan.Plan}
+use Rattle.sends.specs.{declared.ticket.Ticket.Ticket, declared.ticket.Ticket.the-variants.{Remote, Found, TooHigh}, declared.plan.Plan.Plan}
 use Rattle.sends.specs.{Ticket.{fits, is-new, tn-of, table-by, wire-by, log-by, sn-next, message-after}, Sent.{ticketed-by, sent-by, sent}}
 use Rattle.sends.specs.Plan.{idle, new-plan, local-plan, plan-for, plan-with, plan-of, base-after, extra-after}
 

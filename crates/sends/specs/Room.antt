@@ -1,5 +1,5 @@
 -- A send adds at most one, and where there is room it is added.
-use Rattle.lists.specs.Basics.{_≡_, refl, Bool, true, _&&_, List, ℕ, _+_, _<_, _≤_, arith, length}
+use Rattle.lists.specs.Basics.{_≡_, refl, Bool, true, _&&_, List, _+_, _<_, _≤_, arith, length}
 use Rattle.lists.specs.Tests.{either}
 use Rattle.arrays.specs.Front.{push-fits}
 use Rattle.protocol.specs.{declared.Entry.Entry, declared.Message.Message, declared.Packet.Packet}

@@ -4,7 +4,7 @@ use Rattle.lists.specs.{Tests.eq?, Map.{upd, upd-same, upd-other}}
 use Rattle.protocol.specs.{declared.Message.Message, Parts.{State, Memory}, Tickets.new-tn, Sending.{local-entry, is-local, send}, Recovery.Laws.Lookups.length-filled}
 use Rattle.sends.specs.{declared.ticket.Ticket.Ticket, declared.ticket.Ticket.the-variants.{Remote, Found, New, TooHigh}}
 use Rattle.sends.specs.{Ticket.{fits, is-new, tn-of, table-by, log-by, snoc, message-after}, Entries.{entry-filled, next-filled, entry-more, next-after}}
-use Rattle.sends.specs.{Sent.{sent, keeps, job-kept, table-after, sn-after}, PlanLaws.judges}
+use Rattle.sends.specs.{Sent.{ticketed-by, sent-by, sent, keeps, table-after, sn-after}, PlanLaws.judges}
 use Rattle.sends.specs.Plan.{plan-for, plan-with, plan-of, plan-after, last-after, base-after, extra-after}
 
 -- to the same receiver: the table as the first send left it, or the table before it with the first ticket's TN and entry
@@ -25,11 +25,11 @@ module _ (s : State) (a b v h : ℕ) (k : Ticket) (new : is-new k ≡ true → t
   m = message-after a b (s .live a .sn b) v h
 
   second-plan : plan-of (sent s m k) a d ≡ plan-after s a b k d
-  unfolding plan-of plan-after plan-with last-after base-after extra-after log-by
+  unfolding plan-of plan-after plan-with last-after base-after extra-after sent-by ticketed-by log-by
   second-plan =
       let table = upd b (table-by snoc (s .live b .table) m k) (λ i. s .live i .table) d in
       let last = upd b (m .sn) (s .live a .sn) d in
-      rw (job-kept s m k, table-after s m k d, sn-after s m k)
+      rw (table-after s m k d, sn-after s m k)
       (keeps s m k (λ y. plan-for (is-local (s .job) a d) table (y .top) (y .mark a) a last (y .height) 0) (λ y l. refl) (λ y t. refl) d
       ∙ elim (eq? d b) [
         | inl e ↦ rw (e, eq-eqb b b refl, upd-same b (m .sn), upd-same b) (same-receiver (is-local (s .job) a b) (s .live b) a m k new)

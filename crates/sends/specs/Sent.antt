@@ -41,10 +41,6 @@ module _ (s : State) (m : Message) (k : Ticket) where
     unfolding sent-by
     keeps log c = upd-ind (λ i y. f y ≡ f (s .live i)) (m .sender) _ (ticketed .live) (log _ _ ∙ ticket-keeps (m .sender)) (λ i n. ticket-keeps i) c
 
-  pub job-kept : sent .job ≡ s .job
-  unfolding sent-by ticketed-by
-  job-kept = refl
-
   pub table-after : (c : ℕ) → sent .live c .table ≡ upd (m .receiver) (table-by snoc (s .live (m .receiver) .table) m k) (λ i. s .live i .table) c
   unfolding sent-by ticketed-by log-by
   table-after c =
