@@ -5,7 +5,7 @@ use Rattle.protocol.specs.{declared.Message.Message, declared.Content.Content, 
 use Rattle.words.specs.Part.{part, put, part-length}
 use Rattle.packets.specs.Fits.{fits-same}
 use Rattle.memory.specs.{Places.{SN, TABLE, ROW, LOG, MEMORY}, Numbers.sn-set, View.{memory-view, log-changed, table-changed}}
-use Rattle.sends.specs.{declared.ticket.Ticket.the-variants.{Found, New}, Ticket.{to-table, to-log}}
+use Rattle.sends.specs.{declared.ticket.Ticket.the-variants.{Found, New}, Ticket.{table-by, to-table, log-by, to-log}}
 use Rattle.tickets.specs.Table as tickets
 use Rattle.logs.specs.Log as logs
 use Rattle.logs.specs.Fits as log-fits
@@ -15,12 +15,12 @@ use Rattle.packets.specs.Words as packets
 module _ (ws ys : List ℕ) (size : length ws ≡ MEMORY) (long : length ys ≡ ROW) (m : Message) (t : ℕ) (h-in : m .hops < 8) where
   pub ticket-found : tickets.entries ys ≡ filled (m .sender) (m .sn) (m .value) (m .hops % 8) (tickets.entries (part TABLE ROW ws))
       → memory-view (put TABLE ROW ws ys) ≡ with-table (memory-view ws) (to-table (memory-view ws .table) m (Found t))
-  unfolding to-table
+  unfolding table-by
   ticket-found e = table-changed ws ys size long (filled (m .sender) (m .sn) (m .value) (m .hops)) (e ∙ rw (mod-eq-of-lt h-in))
 
   pub ticket-new : m .sender < 13 → tickets.entries ys ≡ push (length (part TABLE ROW ws) - 1) (tickets.entries (part TABLE ROW ws)) (tickets.fitted (local-entry m t))
       → memory-view (put TABLE ROW ws ys) ≡ with-table (memory-view ws) (to-table (memory-view ws .table) m (New t))
-  unfolding to-table tickets.fitted local-entry
+  unfolding table-by tickets.fitted local-entry
   ticket-new a-in e =
       let z : length (part TABLE ROW ws) - 1 ≡ 16 = omega (arith, part-length TABLE ROW ws (omega arith)) in
       let s : m .sender < 16 = omega arith in
@@ -33,7 +33,7 @@ module _ (ws ys : List ℕ) (size : length ws ≡ MEMORY) (long : length ys ≡ 
 
   pub logged-put : logs.entries ys ≡ push (length (part LOG ROW counted) - 1) (logs.entries (part LOG ROW counted)) (logs.fitted (record { message = m; tn = t }))
       → memory-view (put LOG ROW counted ys) ≡ to-log (memory-view ws) m t
-  unfolding to-log
+  unfolding log-by
   logged-put e =
       let size2 : length counted ≡ MEMORY = simp length-set size in
       let z : length (part LOG ROW counted) - 1 ≡ 16 = omega (arith, part-length LOG ROW counted (omega arith)) in

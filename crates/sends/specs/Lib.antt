@@ -1,12 +1,9 @@
 -- What the contracts of sends say.
 pub mod Ticket
 pub mod Sent
-pub mod SentLaws
 pub mod Plan
 pub mod PlanLaws
-pub mod NextTn
 pub mod Entries
-pub mod AfterLaws
 pub mod SecondLaws
 pub mod Verdict
 pub mod Sends
@@ -14,7 +11,6 @@ pub mod Sendable
 pub mod Room
 pub mod Reading
 pub mod InMemory
-pub mod Planned
 pub mod Stored
 pub mod Made
 pub mod Works

@@ -1,7 +1,8 @@
 -- What a send needs to know before it is made: its ticket, and what the questions 7, 8 and 10 say of it.
-use Rattle.lists.specs.Basics.{Bool, true, false, cond, List, Option, some, none, ℕ, _+_, eqb, ltb, leb, length}
-use Rattle.protocol.specs.{declared.Entry.Entry, Parts.{State, Memory}, Window.admitted, Tickets.{entry, next-tn}, Sending.is-local}
-use Rattle.sends.specs.{declared.ticket.Ticket.Ticket, declared.ticket.Ticket.the-variants.{Remote, Found, New, TooHigh}, Ticket.sn-next, declared.plan.Plan.Plan}
+use Rattle.lists.specs.Basics.{Bool, true, false, cond, _&&_, List, Option, some, none, ℕ, _+_, eqb, ltb, leb, length}
+use Rattle.protocol.specs.{declared.Entry.Entry, Parts.State, Window.admitted, Tickets.{entry, next-tn}, Sending.is-local}
+use Rattle.sends.specs.{declared.ticket.Ticket.Ticket, declared.ticket.Ticket.the-variants.{Remote, Found, New, TooHigh}}
+use Rattle.sends.specs.{declared.plan.Plan.Plan, Ticket.{is-new, tn-of, sn-next}}
 
 -- no new ticket
 unfoldable pub idle : Ticket → Plan
@@ -23,36 +24,27 @@ plan-for near l top mark a last base extra =
     (cond near (local-plan (next-tn base top l) (length l + extra) mark (last + 1) (entry l a (last + 1))) (idle Remote))
     (idle TooHigh)
 
--- a send from a, with the memory x, to b, with the memory y
-abbrev pub plan-on : Bool → Memory → Memory → ℕ → ℕ → Plan
-plan-on near x y a b = plan-for near (y .table) (y .top) (y .mark a) a (x .sn b) (y .height) 0
-
-unfoldable pub plan-of : State → ℕ → ℕ → Plan
-plan-of s a b = plan-on (is-local (s .job) a b) (s .live a) (s .live b) a b
-
 -- After a first send with the ticket k, to the same receiver or not: the last SN, the TN that new ones lie above, and the entries that
 -- came before.
 unfoldable pub last-after : Bool → ℕ → ℕ → ℕ
 last-after same n m = cond same (sn-next n) m
 
 unfoldable pub base-after : Bool → Ticket → ℕ → ℕ
-base-after true (New t) h = t
-base-after true Remote h = h
-base-after true (Found t) h = h
-base-after true TooHigh h = h
-base-after false k h = h
+base-after same k h = cond (same && is-new k) (tn-of k) h
 
 unfoldable pub extra-after : Bool → Ticket → ℕ
-extra-after true (New t) = 1
-extra-after true Remote = 0
-extra-after true (Found t) = 0
-extra-after true TooHigh = 0
-extra-after false k = 0
+extra-after same k = cond (same && is-new k) 1 0
 
--- a send from a, with the memory x, to d, with the memory z, after one to b with the ticket k
-abbrev pub plan-next : Bool → Memory → Memory → ℕ → ℕ → Ticket → ℕ → Plan
-plan-next far x z a b k d =
-    plan-for far (z .table) (z .top) (z .mark a) a (last-after (eqb d b) (x .sn b) (x .sn d)) (base-after (eqb d b) k (z .height)) (extra-after (eqb d b) k)
+-- a send from a to d, where `last` is the last SN
+unfoldable pub plan-with : State → ℕ → ℕ → ℕ → Bool → Ticket → Plan
+plan-with s a d last same k =
+    let z = s .live d in
+    plan-for (is-local (s .job) a d) (z .table) (z .top) (z .mark a) a last (base-after same k (z .height)) (extra-after same k)
 
+-- with none before it
+unfoldable pub plan-of : State → ℕ → ℕ → Plan
+plan-of s a b = plan-with s a b (s .live a .sn b) false Remote
+
+-- after one to b with the ticket k
 unfoldable pub plan-after : State → ℕ → ℕ → Ticket → ℕ → Plan
-plan-after s a b k d = plan-next (is-local (s .job) a d) (s .live a) (s .live d) a b k d
+plan-after s a b k d = plan-with s a d (last-after (eqb d b) (s .live a .sn b) (s .live a .sn d)) (eqb d b) k

@@ -1,12 +1,13 @@
 -- What is read of a store: its head and the places of its memories, in the view's words, and how much its rows can hold.
-use Rattle.lists.specs.Basics.{_≡_, refl, true, List, ℕ, _+_, _-_, _<_, _≤_, arith, leb-true, leb, length}
+use Rattle.lists.specs.Basics.{_≡_, refl, _∙_, Bool, true, List, ℕ, _+_, _-_, _<_, _≤_, arith, leb-true, leb, length}
 use Rattle.lists.specs.Tests.{and-r}
-use Rattle.protocol.specs.Frames.{between}
+use Rattle.protocol.specs.{Frames.between, Sending.is-local}
 use Rattle.words.specs.Part.{part, part-length}
 use Rattle.head.specs.{Head.job-of, HeadLaws.chares-top}
 use Rattle.packets.specs.{Words.packets, Fits.packets-fit}
-use Rattle.memory.specs.Places.{TABLE, LOG, ROW, MEMORY}
-use Rattle.store.specs.{Places.{WIRE, PACKETS, STORE, live-from}, View.view, ViewLaws.wire-at}
+use Rattle.memory.specs.{Places.{TABLE, LOG, ROW, MEMORY}, View.memory-view}
+use Rattle.store.specs.{Places.{WIRE, PACKETS, STORE, live-from}, View.view, ViewLaws.{wire-at, live-at}}
+use Rattle.sends.specs.{declared.plan.Plan.Plan, declared.ticket.Ticket.Ticket, Plan.{plan-for, plan-with, base-after, extra-after}}
 use Rattle.tickets.specs.Table as tickets
 use Rattle.tickets.specs.Fits as table-fits
 use Rattle.logs.specs.Log as logs
@@ -20,6 +21,13 @@ job-at xs = refl
 pub chare-in : (xs : List ℕ) (c : ℕ) → between 1 (view xs .job .chares) c ≡ true → c < 13
 unfolding between view
 chare-in xs c e = omega (arith, leb-true c (job-of xs .chares) (and-r (leb 1 c) (leb c (job-of xs .chares)) e), chares-top xs)
+
+-- the plan of a send, from the receiver's memory; n is the last SN
+pub planned : (xs : List ℕ) (a b : ℕ) → b < 13 → (near : Bool) → near ≡ is-local (job-of xs) a b → (last n : ℕ) → last ≡ n → (same : Bool) (k : Ticket) (p : Plan)
+    → (let y = memory-view (part (live-from b) MEMORY xs) in p ≡ plan-for near (y .table) (y .top) (y .mark a) a last (base-after same k (y .height)) (extra-after same k))
+    → p ≡ plan-with (view xs) a b n same k
+unfolding plan-with
+planned xs a b b-in near near-is last n last-is same k p e = e ∙ rw (near-is, ← job-at xs, last-is, live-at xs b b-in)
 
 -- a memory lent has the memory's length
 pub span : (c : ℕ) → (live-from c + MEMORY) - live-from c ≡ MEMORY

@@ -1,10 +1,11 @@
 -- The questions 7 to 11 for none, one or two sends, by their plans.
-use Rattle.lists.specs.Basics.{_≡_, refl, sym, subst, _∙_, Bool, true, false, _&&_, List, [], _∷_, ℕ, _+_, arith, ltb-true, ltb-false, lt-leb, le-leb, lt-ltb, ltb, leb, length}
+use Rattle.lists.specs.Basics.{_≡_, refl, subst, _∙_, Bool, true, false, _&&_, and-true, and-false, List, [], _∷_, ℕ, _+_, arith, add-one, length}
+use Rattle.lists.specs.Basics.{ltb-true, ltb-false, lt-leb, le-leb, lt-ltb, ltb, leb}
 use Rattle.lists.specs.{Tests.{either, and-l, and-r}, Questions.{asks, first-no}}
-use Rattle.protocol.specs.{declared.Answer.the-variants.Accepted, Parts.State, Sending.{send, send-all, next-message}}
+use Rattle.protocol.specs.{declared.Answer.the-variants.Accepted, Parts.State, Sending.{send, send-all}}
 use Rattle.protocol.specs.{Questions.{numbers-fit, window-admits, log-has-room, table-has-room, wire-fits, put-to-all}, Step.{Outcome, judged}}
-use Rattle.sends.specs.{declared.plan.Plan.Plan, Ticket.{fits, growth}, Plan.{plan-of, plan-after}, PlanLaws.{Judges, judges}, AfterLaws.{log-after, wire-after}}
-use Rattle.sends.specs.SecondLaws.{after-first}
+use Rattle.sends.specs.{declared.plan.Plan.Plan, Ticket.{fits, growth, message-after}, Plan.{plan-of, plan-after}, PlanLaws.{Judges, judges}}
+use Rattle.sends.specs.{Sent.{sent-by, ticketed-by, wire-grown, log-after}, SecondLaws.after-first}
 
 unfoldable pub sends-questions : State → ℕ → List ℕ → ℕ → ℕ → List Bool
 sends-questions s a l v h =
@@ -39,47 +40,25 @@ unfolding first-no
 first-no-guard n p true l m e f = rw (e, f refl)
 first-no-guard n p false l m e f = rw e
 
-pub and-true : (b : Bool) → (b && true) ≡ b
-and-true true = refl
-and-true false = refl
-
-less-leb : (n m : ℕ) → ltb n m ≡ leb (n + 1) m
-less-leb n m = either (ltb n m)
-    (λ e. e ∙ sym (le-leb (n + 1) m (omega (arith, ltb-true n m e))))
-    (λ e. e ∙ sym (lt-leb (n + 1) m (omega (arith, ltb-false n m e))))
+both-less : (n : ℕ) → (ltb n 16 && ltb (n + 1) 16) ≡ leb (n + 2) 16
+both-less n = either (ltb (n + 1) 16)
+    (λ e. let g = ltb-true (n + 1) 16 e in rw (e, lt-ltb n 16 (omega arith), le-leb (n + 2) 16 (omega arith)))
+    (λ e. let g = ltb-false (n + 1) 16 e in rw (e, and-false (ltb n 16), lt-leb (n + 2) 16 (omega arith)))
 
 -- ---- one send
 module _ (s : State) (a b v h : ℕ) where
   pub first-wire : fits (plan-of s a b .ticket) ≡ true → length (send s a b v h .wire) ≡ length (s .wire) + growth (plan-of s a b .ticket)
-  first-wire f = rw (judges s a b .sends f v h) (wire-after s (next-message s a b v h) (plan-of s a b .ticket))
+  unfolding sent-by ticketed-by
+  first-wire f = rw (judges s a b .sends f v h) (wire-grown (s .wire) (message-after a b (s .live a .sn b) v h) (plan-of s a b .ticket))
 
   first-log : fits (plan-of s a b .ticket) ≡ true → length (send s a b v h .live a .log) ≡ length (s .live a .log) + 1
-  unfolding next-message
-  first-log f = rw (judges s a b .sends f v h) (log-after s (next-message s a b v h) (plan-of s a b .ticket))
+  first-log f = rw (judges s a b .sends f v h) (log-after s (message-after a b (s .live a .sn b) v h) (plan-of s a b .ticket))
 
   pub one-judged : first-no 7 (sends-questions s a (b ∷ []) v h) ≡ one-verdict (plan-of s a b) (length (s .live a .log)) (length (s .wire))
   unfolding one-verdict sends-questions put-to-all send-all wire-fits log-has-room
   one-judged =
       let j = judges s a b in
-      first-no-guard 7 _ _ _ _ (and-true (numbers-fit s a b) ∙ j .numbers)
-      (λ f. rw (
-        and-true (window-admits s a b),
-        j .window f,
-        and-true (ltb (length (s .live a .log)) 16),
-        less-leb (length (s .live a .log)) 16,
-        and-true (table-has-room s a b),
-        j .table f,
-        first-wire f,
-      ))
-
-both-less : (n : ℕ) → (ltb n 16 && ltb (n + 1) 16) ≡ leb (n + 2) 16
-both-less n = either (ltb (n + 1) 16)
-    (λ e. rw (e, lt-ltb n 16 (omega (arith, ltb-true (n + 1) 16 e))) (sym (le-leb (n + 2) 16 (omega (arith, ltb-true (n + 1) 16 e)))))
-    (λ e. rw e (none (ltb n 16) ∙ sym (lt-leb (n + 2) 16 (omega (arith, ltb-false (n + 1) 16 e)))))
-  where
-    none : (b : Bool) → (b && false) ≡ false
-    none true = refl
-    none false = refl
+      first-no-guard 7 _ _ _ _ (and-true (numbers-fit s a b) ∙ j .numbers) (λ f. simp (and-true, j .window f, add-one, j .table f, first-wire f))
 
 -- ---- two sends, the second as if the first were made
 module _ (s : State) (a b v h d : ℕ) where
@@ -106,23 +85,10 @@ module _ (s : State) (a b v h d : ℕ) where
   pub two-judged : first-no 7 (sends-questions s a (b ∷ d ∷ []) v h) ≡ two-verdict first second (length (s .live a .log)) (length (s .wire))
   unfolding two-verdict sends-questions put-to-all send-all wire-fits log-has-room
   two-judged =
-      let t = send s a b v h in
-      let n = length (s .live a .log) in
       first-no-guard 7 _ _ _ _ both-fit
       (λ f.
       let f1 = and-l (fits (first .ticket)) (fits (second .ticket)) f in
       let f2 = and-r (fits (first .ticket)) (fits (second .ticket)) f in
       let j = judges s a b in
       let k = second-judges f1 in
-      rw (
-        j .window f1,
-        and-true (window-admits t a d),
-        k .window f2,
-        first-log s a b v h f1,
-        and-true (ltb (n + 1) 16),
-        both-less n,
-        j .table f1,
-        and-true (table-has-room t a d),
-        k .table f2,
-        second-wire f1 f2,
-      ))
+      simp (and-true, j .window f1, k .window f2, first-log s a b v h f1, both-less, j .table f1, k .table f2, second-wire f1 f2))

@@ -1,9 +1,8 @@
--- A frame by the number of the first question that is answered "no".
+-- A frame by the number of the first question that is answered "no": its questions in two parts.
 use Rattle.lists.specs.Basics.{_≡_, refl, ap, Bool, true, false, _&&_, List, [], _∷_, _++_, ℕ, suc, _+_, arith, length}
-use Rattle.lists.specs.Questions.{asks, yes-asks, first-no, first-no-yes, asks-no, asks-first, asks-after}
+use Rattle.lists.specs.Questions.{asks, first-no, first-no-yes, asks-no, asks-after}
 use Rattle.protocol.specs.{declared.Answer.the-variants.Refused, Parts.State, Step.{Outcome, judged}}
 
--- ---- the questions in two parts
 module _ (s : State) (l : List Bool) (o : Outcome) where
   pub stopped : (n : ℕ) (f : List Bool) → (first-no n f ≡ 0 → ⊥) → judged s (asks n (f ++ l) o) ≡ record { state = s; answer = Refused (first-no n f) }
   unfolding judged
@@ -21,18 +20,10 @@ module _ (s : State) (l : List Bool) (o : Outcome) where
   part-stopped n true false y z h = refl
   part-stopped n false x y z h = refl
 
-  pub part-passed : (n : ℕ) (p x y z : Bool) → first-no (suc n) (p ∷ (x && y) ∷ []) ≡ 0 → judged s (asks (suc n) (p ∷ (x && y && z) ∷ l) o) ≡ judged s (asks (suc (suc n)) (z ∷ l) o)
+  pub part-passed : (n : ℕ) (p x y z : Bool) → first-no (suc n) (p ∷ (x && y) ∷ []) ≡ 0
+      → judged s (asks (suc n) (p ∷ (x && y && z) ∷ l) o) ≡ judged s (asks (suc (suc n)) (z ∷ l) o)
   unfolding first-no judged asks
   part-passed n true true true z e = refl
   part-passed n true true false z e = absurd (omega arith)
   part-passed n true false y z e = absurd (omega arith)
   part-passed n false x y z e = absurd (omega arith)
-
--- ---- all of them
-pub judged-no : (s : State) (n : ℕ) (l : List Bool) (o : Outcome) → (first-no n l ≡ 0 → ⊥) → judged s (asks n l o) ≡ record { state = s; answer = Refused (first-no n l) }
-unfolding judged
-judged-no s n l o h = ap (judged s) (asks-first n l o h)
-
-pub judged-yes : (s : State) (n : ℕ) (l : List Bool) (o : Outcome) → first-no (suc n) l ≡ 0 → judged s (asks (suc n) l o) ≡ o
-unfolding judged
-judged-yes s n l o e = ap (judged s) (yes-asks (suc n) l o (first-no-yes n l e))

@@ -48,15 +48,11 @@ module _ (x : Numbers) (e : Entry) where
 
     -- k is the mark, and d the mark and the window that the entry's SN leaves
     module _ (low : h < 60000) (k : ℕ) (k-is : k ≡ x .mark % 65536) (d : Slid) (takes : TakenIn k (x .window) (e .sn) d) where
-      risen : (m : Memory) → NumbersOf m (e .sender) x → d .mark ≡ mark-after m e
-      unfolding mark-after
-      risen m is = takes .mark-risen ∙ rw (k-is, is .mark, is .window)
-
       asked : (m : Memory) → NumbersOf m (e .sender) x → first-no 6 (own-questions m e) ≡ first-no 7 (leb (d .mark) 60000 ∷ [])
-      unfolding first-no own-questions
+      unfolding first-no own-questions mark-after
       asked m is =
           let q : m .height + 1 ≤ 60000 = omega (arith, is .height) in
-          rw (f, le-leb (m .height + 1) 60000 q, risen m is)
+          rw (f, le-leb (m .height + 1) 60000 q, takes .mark-risen, k-is, is .mark, is .window)
 
       pub mark-too-high : 60000 < d .mark → WorkedAs x e (record { answer = 7; numbers = x })
       unfolding first-no

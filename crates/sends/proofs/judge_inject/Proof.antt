@@ -1,16 +1,17 @@
 use Rattle.lists.specs.Basics.{_∙_, needs}
-use Rattle.sends.specs.Inject.{desk-asked}
+use Rattle.protocol.specs.Questions.{is-chare}
+use Rattle.store.specs.View.{view}
+use Rattle.sends.specs.Inject.{desk-questions}
 use Rattle.sends.proofs.judge_inject.Statement.{statement}
 use Rattle.sends.proofs.judge_inject.Tie as tie
 
 returns : tie.Need-returns
+unfolding desk-questions is-chare view
 returns c =
     let l = c .before in
     let j = l .before in
     let b = j .before in
-    let k = b .before in
-    let a = k .before .before .args in
-    desk-asked (a .s .now) (a .chare) (a .hops) _ _ _ (j .is-set .ensures) (b .both .ensures ∙ rw (k .is-chare .ensures)) (l .is-lost .ensures) _ (c .first-no .ensures)
+    c .first-no .ensures ∙ rw (j .is-set .ensures, b .both .ensures, b .before .is-chare .ensures, l .is-lost .ensures)
 
 pub judge-inject-spec : {M : Type 1} → statement M
 judge-inject-spec =

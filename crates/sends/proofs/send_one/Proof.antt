@@ -1,5 +1,5 @@
 use Rattle.lists.specs.Basics.{needs}
-use Rattle.sends.specs.Made.{one-refused, one-made}
+use Rattle.sends.specs.Made.{none-sent, one-said, one-made}
 use Rattle.sends.proofs.send_one.Statement.{statement}
 use Rattle.sends.proofs.send_one.Tie as tie
 
@@ -11,7 +11,7 @@ returns c =
     let p = g .before .before in
     let st = p .before .before .before in
     let a = st .args in
-    one-refused (a .s .now) (a .a) (a .b) (a .value) (a .hops) _ (p .plan-of .ensures) _ _ _ (g .logged .ensures .0) (w .waiting .ensures .0) (v .one-verdict .ensures) (c .if1 .taken)
+    none-sent (one-said (a .s .now) (a .a) (a .b) (a .value) (a .hops) _ (p .plan-of .ensures) _ _ _ (g .logged .ensures .0) (w .waiting .ensures .0) (v .one-verdict .ensures)) (c .if1 .taken)
 
 returns-2 : tie.Need-returns-2
 returns-2 c =

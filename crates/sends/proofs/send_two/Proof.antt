@@ -1,5 +1,5 @@
 use Rattle.lists.specs.Basics.{needs}
-use Rattle.sends.specs.Made.{two-refused, two-made}
+use Rattle.sends.specs.Made.{none-sent, two-said, two-made}
 use Rattle.sends.proofs.send_two.Statement.{statement}
 use Rattle.sends.proofs.send_two.Tie as tie
 
@@ -12,7 +12,7 @@ returns c =
     let p = q .before .before in
     let st = p .before .before .before in
     let a = st .args in
-    two-refused (a .s .now) (a .a) (a .b) (a .value) (a .hops) _ (p .plan-of .ensures) _ _ _ (g .logged .ensures .0) (w .waiting .ensures .0) (a .d) _ (q .plan-after .ensures) (v .two-verdict .ensures) (c .if1 .taken)
+    none-sent (two-said (a .s .now) (a .a) (a .b) (a .value) (a .hops) _ (p .plan-of .ensures) _ _ _ (g .logged .ensures .0) (w .waiting .ensures .0) (a .d) _ (q .plan-after .ensures) (v .two-verdict .ensures)) (c .if1 .taken)
 
 returns-2 : tie.Need-returns-2
 returns-2 c =

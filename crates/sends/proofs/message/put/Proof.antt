@@ -1,5 +1,5 @@
 use Rattle.lists.specs.Basics.{length, arith, _-_, _≡_, refl, _∙_, needs}
-use Rattle.sends.specs.{Ticket.to-wire, InMemory.about-fits}
+use Rattle.sends.specs.{Ticket.wire-by, InMemory.about-fits}
 use Rattle.packets.specs.Words.{fit-content}
 use Rattle.protocol.specs.declared.Content.the-variants.{Ask, Note}
 use Rattle.sends.proofs.message.put.Statement.{statement}
@@ -33,7 +33,7 @@ same-length : tie.Need-same-length
 same-length c = search needs
 
 returns : tie.Need-returns
-unfolding to-wire fit-content
+unfolding wire-by fit-content
 returns c =
     let j = c .before .before in
     let t = j .before .before .before in
@@ -43,13 +43,13 @@ returns c =
     rw (t .enum-told .given .1) (j .join .ensures ∙ rw (n, j .before .about .ensures, about-fits (a .m) Ask (st .pre .1 .0) (st .pre .1 .1) (search needs) refl))
 
 returns-2 : tie.Need-returns-2
-returns-2 c = unfold to-wire in rw (c .enum-told2 .given .1)
+returns-2 c = unfold wire-by in rw (c .enum-told2 .given .1)
 
 same-length-2 : tie.Need-same-length-2
 same-length-2 c = search needs
 
 returns-3 : tie.Need-returns-3
-unfolding to-wire fit-content
+unfolding wire-by fit-content
 returns-3 c =
     let j = c .before .before in
     let t = j .before .before .before .before in
@@ -59,7 +59,7 @@ returns-3 c =
     rw (t .k .given .1) (j .join2 .ensures ∙ rw (n, j .before .about2 .ensures, about-fits (a .m) (Note _) (st .pre .1 .0) (st .pre .1 .1) (search needs) refl))
 
 returns-4 : tie.Need-returns-4
-returns-4 c = unfold to-wire in rw (c .enum-told3 .given .1)
+returns-4 c = unfold wire-by in rw (c .enum-told3 .given .1)
 
 pub put-spec : {M : Type 1} → statement M
 put-spec =

@@ -1,14 +1,15 @@
 use Rattle.lists.specs.Basics.{needs}
-use Rattle.sends.specs.{Reading.span, Planned.plan-at}
+use Rattle.sends.specs.{Reading.{span, planned}, Plan.plan-of}
 use Rattle.sends.proofs.plan.plan_of.Statement.{statement}
 use Rattle.sends.proofs.plan.plan_of.Tie as tie
 
 returns : tie.Need-returns
+unfolding plan-of
 returns c =
     let l = c .before .before in
     let a = l .before .before .before .args in
     let e = span (a .b) in
-    plan-at (a .s .now) (a .a) (a .b) (search needs) _ (l .before .is-local .ensures) _ _ (l .last-sn .ensures) (rw e at (c .plan-on .ensures))
+    planned (a .s .now) (a .a) (a .b) (search needs) _ (l .before .is-local .ensures) _ _ (l .last-sn .ensures) _ _ _ (rw e at (c .plan-on .ensures))
 
 pub plan-of-spec : {M : Type 1} → statement M
 plan-of-spec =

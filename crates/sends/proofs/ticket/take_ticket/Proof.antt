@@ -1,5 +1,5 @@
 use Rattle.lists.specs.Basics.{arith, needs}
-use Rattle.sends.specs.{InMemory.{ticket-found, ticket-new}, Ticket.to-table}
+use Rattle.sends.specs.{InMemory.{ticket-found, ticket-new}, Ticket.table-by}
 use Rattle.protocol.specs.Sending.{local-entry}
 use Rattle.sends.proofs.ticket.take_ticket.Statement.{statement}
 use Rattle.sends.proofs.ticket.take_ticket.Tie as tie
@@ -41,7 +41,7 @@ enum-told-3 : tie.Need-enum-told-3
 enum-told-3 c = search needs
 
 returns : tie.Need-returns
-returns c = unfold to-table in rw (c .enum-told .given .1)
+returns c = unfold table-by in rw (c .enum-told .given .1)
 
 same-length : tie.Need-same-length
 same-length c = search needs
@@ -65,7 +65,7 @@ returns-3 c =
     rw (t .k .given .1) (ticket-new (a .y .now) (f .push .last .0) (search needs) (omega arith) (a .m) _ (search needs) (search needs) (f .push .ensures))
 
 returns-4 : tie.Need-returns-4
-returns-4 c = unfold to-table in rw (c .enum-told3 .given .1)
+returns-4 c = unfold table-by in rw (c .enum-told3 .given .1)
 
 pub take-ticket-spec : {M : Type 1} → statement M
 take-ticket-spec =
