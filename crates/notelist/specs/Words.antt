@@ -4,7 +4,7 @@ use Rattle.lists.specs.Basics.{drop-of-length-le, drop-cons}
 use Rattle.lists.specs.Lists.{anyb}
 use Rattle.arrays.specs.Front.{push}
 use Rattle.protocol.specs.{declared.Note.Note, Packets.{same-note, is-noted}}
-use Rattle.words.specs.{Rows.{row, row-at}, Sift.row-cut, Mapped.map-push}
+use Rattle.words.specs.{Rows.{row, row-at, row-cut}, Mapped.map-push}
 use Rattle.item.specs.Item.{item-of, clipped}
 use Rattle.notelist.specs.Notes.{note-of, as-note, fitted, notes}
 

@@ -3,7 +3,7 @@ use Rattle.lists.specs.Basics.{_≡_, refl, sym, _∙_, Bool, true, false, List
 use Rattle.lists.specs.Lists.{gather}
 use Rattle.protocol.specs.{declared.Entry.Entry, Parts.{State, every-sender, every-chare}, Restart.{enter, restored-table, filled-table, local-log}}
 use Rattle.protocol.specs.Recovery.Laws.Filled.{length-filled-table}
-use Rattle.words.specs.Sift.{row-cut}
+use Rattle.words.specs.Rows.{row-cut}
 use Rattle.tickets.specs.Table.{entries}
 use Rattle.notelist.specs.Notes.{notes}
 use Rattle.memory.specs.{Places.{TABLE, LOG, ROW, MEMORY}, View.memory-view}

@@ -1,8 +1,8 @@
 -- A counted row of words: the count, then the items. A count above the room counts as the room.
-use Rattle.lists.specs.Basics.{_≡_, refl, sym, ap, _∙_, Bool, true, false, List, [], _∷_, _++_, append-nil, ℕ, suc, zero, _+_, _-_, _*_, _%_, _≤_, _<_, min, arith, add-one, eqb}
+use Rattle.lists.specs.Basics.{_≡_, refl, sym, ap, _∙_, Bool, true, false, cond, List, [], _∷_, _++_, append-nil, ℕ, suc, zero, _+_, _-_, _*_, _%_, _≤_, _<_, min, arith, add-one, eqb}
 use Rattle.lists.specs.Basics.{length, take, drop, getD, set, length-drop, length-set, drop-of-length-le, getD-drop, drop-set-add, drop-set-lt, getD-set-same, getD-set-other}
-use Rattle.lists.specs.Basics.{take-take, take-all}
-use Rattle.arrays.specs.{Front.{push, front-length, front-at, put-at, push-room, no-room, front-beyond}, Place.{place, place-hit, place-miss, place-end}}
+use Rattle.lists.specs.Basics.{take-take, take-all, length-append, length-take, eq-eqb, ne-eqb}
+use Rattle.arrays.specs.{Front.{push, push-fits, front-length, front-at, put-at, push-room, no-room, front-beyond}, Place.{place, place-hit, place-miss, place-end}}
 
 unfoldable pub row : List ℕ → List ℕ
 row ws = take (min (getD ws 0 0) (length ws - 1)) (drop 1 ws)
@@ -21,6 +21,12 @@ OWNER = 16 * PEER
 -- a word with this peer and SN in its lowest fields
 unfoldable pub named : ℕ → ℕ → ℕ → Bool
 named peer sn w = eqb (w % OWNER) (sn + PEER * peer)
+
+-- A row becomes l, and every word is said: the items, the count word (as it was where the number of items stays), the words behind.
+pub record Becomes (before after l : List ℕ) : Type 0 where
+  pub items : row after ≡ l
+  pub count : getD after 0 0 ≡ cond (eqb (length l) (length (row before))) (getD before 0 0) (length l)
+  pub behind : drop (length l + 1) after ≡ drop (length l + 1) before
 
 module _ {A : Type 0} where
   -- the one after the gap moves down into it
@@ -102,14 +108,46 @@ module _ (ws : List ℕ) where
       rw (e, row-set j _ (omega arith)) (without-move (row ws) j 0 h)
 
   -- only the first j count
-  cut : (j : ℕ) → j < length (row ws) → row (set ws 0 j) ≡ take j (row ws)
+  pub row-cut : (j : ℕ) → 0 < length ws → j ≤ length (row ws) → row (set ws 0 j) ≡ take j (row ws)
   unfolding row
-  cut j h =
+  row-cut j s h =
       let l = row-length in
-      let f : getD (set ws 0 j) 0 0 ≡ j = getD-set-same ws 0 j 0 (omega arith) in
+      let f : getD (set ws 0 j) 0 0 ≡ j = getD-set-same ws 0 j 0 s in
       let g : min j (length ws - 1) ≡ j = omega arith in
       rw (f, length-set, g, drop-set-lt 1 ws 0 j (omega arith)) (sym (take-take j (min (getD ws 0 0) (length ws - 1)) (drop 1 ws) (omega arith)))
 
-  -- the last has gone
-  pub row-last : (j : ℕ) → j < length (row ws) → length (row ws) ≤ j + 1 → row (set ws 0 j) ≡ without j (row ws)
-  row-last j h g = cut j h ∙ sym (without-last (row ws) j g)
+  -- ---- what the functions leave, word by word
+  pub becomes-same : {l : List ℕ} → row ws ≡ l → Becomes ws ws l
+  becomes-same e = record { items = e; count = rw (← e, eq-eqb (length (row ws)) (length (row ws)) refl); behind = refl }
+
+  pub becomes-set : (i x : ℕ) → i < length (row ws) → Becomes ws (set ws (i + 1) x) (set (row ws) i x)
+  becomes-set i x h = record {
+    items = row-set i x h;
+    count = rw (length-set, eq-eqb (length (row ws)) (length (row ws)) refl) (getD-set-other ws (i + 1) 0 x 0 (λ q. omega arith));
+    behind = rw length-set (drop-set-lt (length (row ws) + 1) ws (i + 1) x (omega arith));
+  }
+
+  pub becomes-push : (n x : ℕ) → n ≡ length (row ws) → n + 1 < length ws → Becomes ws (set (set ws (n + 1) x) 0 (n + 1)) (push (length ws - 1) (row ws) x)
+  becomes-push n x q h =
+      let k : length (push (length ws - 1) (row ws) x) ≡ n + 1 = rw (push-fits (length ws - 1) (row ws) x (omega arith), length-append) (omega arith) in
+      record {
+        items = row-push n x q h;
+        count = rw (k, ne-eqb (n + 1) (length (row ws)) (λ e. omega arith)) (getD-set-same (set ws (n + 1) x) 0 (n + 1) 0 (simp length-set (omega arith)));
+        behind = rw k (drop-set-lt (n + 1 + 1) (set ws (n + 1) x) 0 (n + 1) (omega arith) ∙ drop-set-lt (n + 1 + 1) ws (n + 1) x (omega arith));
+      }
+
+  -- the last of n has gone; old is the row that the gap was moved through
+  pub becomes-less : (j n : ℕ) (old l : List ℕ) → length (row ws) ≡ n → drop n ws ≡ drop n old → without j (row ws) ≡ l → n ≡ length (row old) → n ≡ j + 1 → Becomes old (set ws 0 j) l
+  becomes-less j n old l q rest e same last =
+      let cut = row-cut j (omega (arith, row-length)) (omega arith) in
+      let i : row (set ws 0 j) ≡ l = cut ∙ sym (without-last (row ws) j (omega arith)) ∙ e in
+      let k : length l ≡ j = rw (← i, cut, length-take) (omega arith) in
+      record {
+        items = i;
+        count = rw (k, ne-eqb j (length (row old)) (λ e. omega arith)) (getD-set-same ws 0 j 0 (omega (arith, row-length)));
+        behind = rw (k, ← last) (drop-set-lt n ws 0 j (omega arith) ∙ rest);
+      }
+
+  -- a word within is written: those behind stay
+  pub behind-kept : (n i x : ℕ) (old : List ℕ) → length (row ws) ≡ n → i < length (row ws) → drop n ws ≡ drop n old → drop n (set ws i x) ≡ drop n old
+  behind-kept n i x old q h e = drop-set-lt n ws i x (omega arith) ∙ e

@@ -6,7 +6,7 @@ use Rattle.notelist.proofs.push.Tie as tie
 returns : tie.Need-returns
 returns c =
     let p = c .before .before in
-    pushed (p .before .before .before .before .args .ws .now) _ _ _ (p .push .ensures) (p .before .pack .ensures)
+    pushed (p .before .before .before .before .args .ws .now) _ _ _ (p .push .ensures .items) (p .before .pack .ensures)
 
 pub push-spec : {M : Type 1} → statement M
 push-spec = tie.close (tie.spec (λ c κs. search needs) (λ c κs. search needs) (λ c. search needs) returns)

@@ -15,7 +15,7 @@ returns c =
     let s = k .before .before in
     let a = s .before .before .before .args in
     let e : u .unpack .result ≡ entry-of _ = u .unpack .ensures ∙ ap entry-of (r .read .ensures) in
-    changed-there _ _ (search needs) _ _ (s .seek .ensures) (fill (a .value) (a .hops % 8)) _ _ (omega arith) (w .write .ensures) (p .pack .ensures ∙ fitted-fill (a .value) (a .hops) _ _ e)
+    changed-there _ _ (search needs) _ _ (s .seek .ensures) (fill (a .value) (a .hops % 8)) _ _ (omega arith) (w .write .ensures .items) (p .pack .ensures ∙ fitted-fill (a .value) (a .hops) _ _ e)
 
 returns-2 : tie.Need-returns-2
 unfolding filled

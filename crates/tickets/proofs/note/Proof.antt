@@ -10,7 +10,7 @@ returns c =
     let m = w .before .before in
     let r = m .before in
     let s = r .before .before .before .before .before in
-    changed-there _ _ (search needs) _ _ (s .seek .ensures) note-entry _ _ (omega arith) (w .write .ensures) (m .noted .ensures ∙ ap (λ x. note-entry (entry-of x)) (r .read .ensures))
+    changed-there _ _ (search needs) _ _ (s .seek .ensures) note-entry _ _ (omega arith) (w .write .ensures .items) (m .noted .ensures ∙ ap (λ x. note-entry (entry-of x)) (r .read .ensures))
 
 returns-2 : tie.Need-returns-2
 returns-2 c = changed-none _ _ (search needs) _ _ (c .before .before .before .seek .ensures) _ (omega arith)
