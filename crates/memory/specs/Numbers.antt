@@ -69,14 +69,16 @@ module _ (ws : List ℕ) (size : length ws ≡ MEMORY) (x : ℕ) where
       map-word i (omega arith) (omega arith) (part-set SN 16 ws x r h) (part-set-before MARK 16 ws x i (omega arith)) (part-set-before WINDOW 16 ws x i (omega arith))
       ∙ rw (words-set SN r h (omega arith) small)
 
-  mark-set : (r : ℕ) → r < 16 → x < 65536 → memory-view (set ws (MARK + r) x) ≡ with-maps (memory-view ws) (memory-view ws .sn) (upd r x (memory-view ws .mark)) (memory-view ws .window)
+  mark-set : (r : ℕ) → r < 16 → x < 65536 → memory-view (set ws (MARK + r) x)
+      ≡ with-maps (memory-view ws) (memory-view ws .sn) (upd r x (memory-view ws .mark)) (memory-view ws .window)
   unfolding memory-view
   mark-set r h small =
       let i = MARK + r in
       map-word i (omega arith) (omega arith) (part-set-behind SN 16 ws x i (omega arith)) (part-set MARK 16 ws x r h) (part-set-before WINDOW 16 ws x i (omega arith))
       ∙ rw (words-set MARK r h (omega arith) small)
 
-  window-set : (r : ℕ) → r < 16 → memory-view (set ws (WINDOW + r) x) ≡ with-maps (memory-view ws) (memory-view ws .sn) (memory-view ws .mark) (upd r (bits x) (memory-view ws .window))
+  window-set : (r : ℕ) → r < 16 → memory-view (set ws (WINDOW + r) x)
+      ≡ with-maps (memory-view ws) (memory-view ws .sn) (memory-view ws .mark) (upd r (bits x) (memory-view ws .window))
   unfolding memory-view
   window-set r h =
       let i = WINDOW + r in
