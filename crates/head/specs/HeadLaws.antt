@@ -1,5 +1,6 @@
 -- What holds of every head, and what the branches of the code find.
-use Rattle.lists.specs.Basics.{not, List, _≡_, refl, sym, _∙_, ℕ, _+_, _<_, _≤_, min, arith, add-one, eqb-true, eqb, length, getD, set, take, take-suc, take-suc-set, take-all}
+use Rattle.lists.specs.Basics.{not, List, _≡_, refl, sym, fun-ext, _∙_, ℕ, _+_, _<_, _≤_, min, arith, add-one, eqb-true, eqb, length, getD, set, take, take-suc}
+use Rattle.lists.specs.Basics.{take-suc-set, take-all}
 use Rattle.lists.specs.Tests.{either}
 use Rattle.arrays.specs.ArrayMap.{as-map, map-beyond}
 use Rattle.protocol.specs.Parts.{Job, is-down}
@@ -16,15 +17,7 @@ pub job-is : (h : List ℕ) (j : Job)
     → ((k : ℕ) → cell 12 (part SECOND 13 h) k ≡ j .second k)
     → job-of h ≡ j
 unfolding job-of
-job-is h j s m c b o f g = λ i. record {
-  set = s i;
-  machines = m i;
-  chares = c i;
-  buddy = λ k. b k i;
-  home = λ k. o k i;
-  first = λ k. f k i;
-  second = λ k. g k i;
-}
+job-is h j s m c b o f g = rw (s, m, c, fun-ext b, fun-ext o, fun-ext f, fun-ext g)
 
 module _ (h : List ℕ) where
   pub machines-top : job-of h .machines ≤ 6
@@ -40,11 +33,10 @@ module _ (h : List ℕ) where
   unfolding job-of cell
   home-desk = refl
 
-  -- nor is any chare past the last, and no machine past the last has a buddy
-  module _ (long : HEAD ≤ length h) where
-    pub home-beyond : (c : ℕ) → 13 ≤ c → job-of h .home c ≡ 0
-    unfolding job-of
-    home-beyond c g = cell-end 6 (part HOME 13 h) c (rw (part-length HOME 13 h (omega arith)) g)
+  -- nor is any chare past the last
+  pub home-beyond : HEAD ≤ length h → (c : ℕ) → 13 ≤ c → job-of h .home c ≡ 0
+  unfolding job-of
+  home-beyond long c g = cell-end 6 (part HOME 13 h) c (rw (part-length HOME 13 h (omega arith)) g)
 
 pub word-end : (h : List ℕ) (a n k : ℕ) → a + n ≤ length h → n ≤ k → 0 ≡ as-map 0 (part a n h) k
 word-end h a n k fits g = sym (map-beyond 0 (part a n h) k (rw (part-length a n h fits) g))

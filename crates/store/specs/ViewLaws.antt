@@ -2,7 +2,8 @@
 use Rattle.lists.specs.Basics.{_≡_, refl, sym, ap, _∙_, Bool, List, inl, ℕ, _+_, _≤_, _<_, arith, eqb, length, set}
 use Rattle.lists.specs.Map.{upd}
 use Rattle.protocol.specs.{declared.Status.Status, Parts.{Job, State, Memory, with-lost, with-status, with-memory, with-copies, with-notes, with-wire}}
-use Rattle.words.specs.{Part.{part, put, put-length, part-length, part-put, part-behind}, PartSet.part-set-before, Slots.{slots, slot-here, slots-before, slots-behind, slots-put, slots-set}, Copy.Apart}
+use Rattle.words.specs.{Part.{part, put, put-length, part-length, part-put, part-behind}, PartSet.part-set-before, Copy.Apart}
+use Rattle.words.specs.{Slots.{slots, slot-here, slots-before, slots-behind, slots-put, slots-set}}
 use Rattle.head.specs.{Head.{HEAD, LOST, STATUS, HELD, TARGET, job-of, lost-of, status-of, held-of, target-of, as-status}, Kept.{Says, head-kept, head-put}}
 use Rattle.head.specs.{Sets.{over, set-lost, set-status, set-held, set-target}}
 use Rattle.notelist.specs.Notes.{notes}
@@ -39,11 +40,11 @@ module _ (xs : List ℕ) where
   notes-at p h = ap notes (slot-here NOTES NOTELIST 7 xs p h)
 
 -- a list whose head says this and that has these parts
-shown : (vs : List ℕ) {j : Job} {l : Bool} {s : ℕ → Status} {h : ℕ → Bool} {t : ℕ → ℕ} → Says vs j l s h t
-    → {live copy kept : ℕ → List ℕ} {wire : List ℕ} → slots LIVE MEMORY 13 vs ≡ live → slots COPY MEMORY 13 vs ≡ copy → slots NOTES NOTELIST 7 vs ≡ kept → part WIRE PACKETS vs ≡ wire
-    → view vs ≡ record { job = j; lost = l; status = s; target = t; live = λ c. memory-view (live c); held = h; copy = λ c. memory-view (copy c); notes = λ p. notes (kept p); wire = packets wire }
+shown : (vs : List ℕ) {j : Job} {l : Bool} {s : ℕ → Status} {h : ℕ → Bool} {t : ℕ → ℕ} {a b c : ℕ → List ℕ} {d : List ℕ}
+    → Says vs j l s h t → slots LIVE MEMORY 13 vs ≡ a → slots COPY MEMORY 13 vs ≡ b → slots NOTES NOTELIST 7 vs ≡ c → part WIRE PACKETS vs ≡ d
+    → view vs ≡ record { job = j; lost = l; status = s; target = t; live = λ i. memory-view (a i); held = h; copy = λ i. memory-view (b i); notes = λ i. notes (c i); wire = packets d }
 unfolding view
-shown vs says a b c d = rw (says .job, says .lost, says .status, says .held, says .target, a, b, c, d)
+shown vs says p q r e = rw (says .job, says .lost, says .status, says .held, says .target, p, q, r, e)
 
 -- ---- one word of the head set
 module _ (xs : List ℕ) (size : length xs ≡ STORE) (w : ℕ) where
@@ -83,12 +84,11 @@ module _ (xs : List ℕ) (size : length xs ≡ STORE) where
     pub whole-head-put : view (put 0 HEAD xs ys) ≡ with-head (view xs) ys
     unfolding view
     whole-head-put =
-        let fits : 0 + HEAD ≤ length xs = omega arith in
         shown (put 0 HEAD xs ys) (head-put xs ys (omega arith) long)
-        (slots-behind LIVE MEMORY 13 xs 0 HEAD ys fits long (omega arith))
-        (slots-behind COPY MEMORY 13 xs 0 HEAD ys fits long (omega arith))
-        (slots-behind NOTES NOTELIST 7 xs 0 HEAD ys fits long (omega arith))
-        (part-behind 0 HEAD xs ys fits long WIRE PACKETS (omega arith))
+        (slots-behind LIVE MEMORY 13 xs 0 HEAD ys (omega arith) long (omega arith))
+        (slots-behind COPY MEMORY 13 xs 0 HEAD ys (omega arith) long (omega arith))
+        (slots-behind NOTES NOTELIST 7 xs 0 HEAD ys (omega arith) long (omega arith))
+        (part-behind 0 HEAD xs ys (omega arith) long WIRE PACKETS (omega arith))
 
   -- ---- chare c
   module _ (c : ℕ) (h : c < 13) (ys : List ℕ) (long : length ys ≡ MEMORY) where
@@ -98,23 +98,21 @@ module _ (xs : List ℕ) (size : length xs ≡ STORE) where
     pub live-put : view (put (live-from c) MEMORY xs ys) ≡ with-memory (view xs) c (memory-view ys)
     unfolding view
     live-put =
-        let fits : live-from c + MEMORY ≤ length xs = omega arith in
-        shown (put (live-from c) MEMORY xs ys) (head-kept (live-from c) MEMORY xs ys fits long (omega arith))
+        shown (put (live-from c) MEMORY xs ys) (head-kept (live-from c) MEMORY xs ys (omega arith) long (omega arith))
         (slots-put LIVE MEMORY 13 xs c ys h (omega arith) long)
-        (slots-behind COPY MEMORY 13 xs (live-from c) MEMORY ys fits long (omega arith))
-        (slots-behind NOTES NOTELIST 7 xs (live-from c) MEMORY ys fits long (omega arith))
-        (part-behind (live-from c) MEMORY xs ys fits long WIRE PACKETS (omega arith))
+        (slots-behind COPY MEMORY 13 xs (live-from c) MEMORY ys (omega arith) long (omega arith))
+        (slots-behind NOTES NOTELIST 7 xs (live-from c) MEMORY ys (omega arith) long (omega arith))
+        (part-behind (live-from c) MEMORY xs ys (omega arith) long WIRE PACKETS (omega arith))
         ∙ rw (over memory-view c ys (slots LIVE MEMORY 13 xs))
 
     pub copy-put : view (put (copy-from c) MEMORY xs ys) ≡ with-copy (view xs) c (memory-view ys)
     unfolding view
     copy-put =
-        let fits : copy-from c + MEMORY ≤ length xs = omega arith in
-        shown (put (copy-from c) MEMORY xs ys) (head-kept (copy-from c) MEMORY xs ys fits long (omega arith))
-        (slots-before LIVE MEMORY 13 xs (copy-from c) MEMORY ys fits long (omega arith))
+        shown (put (copy-from c) MEMORY xs ys) (head-kept (copy-from c) MEMORY xs ys (omega arith) long (omega arith))
+        (slots-before LIVE MEMORY 13 xs (copy-from c) MEMORY ys (omega arith) long (omega arith))
         (slots-put COPY MEMORY 13 xs c ys h (omega arith) long)
-        (slots-behind NOTES NOTELIST 7 xs (copy-from c) MEMORY ys fits long (omega arith))
-        (part-behind (copy-from c) MEMORY xs ys fits long WIRE PACKETS (omega arith))
+        (slots-behind NOTES NOTELIST 7 xs (copy-from c) MEMORY ys (omega arith) long (omega arith))
+        (part-behind (copy-from c) MEMORY xs ys (omega arith) long WIRE PACKETS (omega arith))
         ∙ rw (over memory-view c ys (slots COPY MEMORY 13 xs))
 
     pub wire-kept : part WIRE PACKETS (put (live-from c) MEMORY xs ys) ≡ part WIRE PACKETS xs
@@ -136,12 +134,11 @@ module _ (xs : List ℕ) (size : length xs ≡ STORE) where
     pub notes-put : view (put (notes-from p) NOTELIST xs ys) ≡ with-notes (view xs) (upd p (notes ys) (view xs .notes))
     unfolding view
     notes-put =
-        let fits : notes-from p + NOTELIST ≤ length xs = omega arith in
-        shown (put (notes-from p) NOTELIST xs ys) (head-kept (notes-from p) NOTELIST xs ys fits long (omega arith))
-        (slots-before LIVE MEMORY 13 xs (notes-from p) NOTELIST ys fits long (omega arith))
-        (slots-before COPY MEMORY 13 xs (notes-from p) NOTELIST ys fits long (omega arith))
+        shown (put (notes-from p) NOTELIST xs ys) (head-kept (notes-from p) NOTELIST xs ys (omega arith) long (omega arith))
+        (slots-before LIVE MEMORY 13 xs (notes-from p) NOTELIST ys (omega arith) long (omega arith))
+        (slots-before COPY MEMORY 13 xs (notes-from p) NOTELIST ys (omega arith) long (omega arith))
         (slots-put NOTES NOTELIST 7 xs p ys h (omega arith) long)
-        (part-behind (notes-from p) NOTELIST xs ys fits long WIRE PACKETS (omega arith))
+        (part-behind (notes-from p) NOTELIST xs ys (omega arith) long WIRE PACKETS (omega arith))
         ∙ rw (over notes p ys (slots NOTES NOTELIST 7 xs))
 
   -- ---- the wire
@@ -149,9 +146,8 @@ module _ (xs : List ℕ) (size : length xs ≡ STORE) where
     pub wire-put : view (put WIRE PACKETS xs ys) ≡ with-wire (view xs) (packets ys)
     unfolding view
     wire-put =
-        let fits : WIRE + PACKETS ≤ length xs = omega arith in
-        shown (put WIRE PACKETS xs ys) (head-kept WIRE PACKETS xs ys fits long (omega arith))
-        (slots-before LIVE MEMORY 13 xs WIRE PACKETS ys fits long (omega arith))
-        (slots-before COPY MEMORY 13 xs WIRE PACKETS ys fits long (omega arith))
-        (slots-before NOTES NOTELIST 7 xs WIRE PACKETS ys fits long (omega arith))
-        (part-put WIRE PACKETS xs ys fits long)
+        shown (put WIRE PACKETS xs ys) (head-kept WIRE PACKETS xs ys (omega arith) long (omega arith))
+        (slots-before LIVE MEMORY 13 xs WIRE PACKETS ys (omega arith) long (omega arith))
+        (slots-before COPY MEMORY 13 xs WIRE PACKETS ys (omega arith) long (omega arith))
+        (slots-before NOTES NOTELIST 7 xs WIRE PACKETS ys (omega arith) long (omega arith))
+        (part-put WIRE PACKETS xs ys (omega arith) long)
