@@ -6,7 +6,7 @@ use Rattle.arrays.specs.ArrayMap.{as-map}
 use Rattle.protocol.specs.Parts.{Memory, with-sn}
 use Rattle.window.specs.Bits.{bits}
 use Rattle.words.specs.{Part.{part, part-length}, PartSet.{part-set, part-set-before, part-set-behind}, Mapped.map-set}
-use Rattle.memory.specs.{declared.Numbers.Numbers, Places.{STATE, HEIGHT, TOP, NUMBERS, SN, MARK, WINDOW, TABLE, ROW, LOG, MEMORY}, View.memory-view}
+use Rattle.memory.specs.{declared.Numbers.Numbers, Places.{STATE, HEIGHT, NUMBERS, SN, MARK, WINDOW, TABLE, ROW, LOG, MEMORY}, View.memory-view}
 use Rattle.arrays.specs.ArrayMap as arrays
 
 -- the four words as they stand, for the sender s
