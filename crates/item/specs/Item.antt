@@ -1,6 +1,6 @@
 -- A word as an item, and an item as a word. A field is what stands above its place value, modulo the number of its values.
-use Rattle.lists.specs.Basics.{_≡_, sym, _∙_, _&&_, ℕ, _+_, _*_, _/_, _%_, _<_, arith, eqb-true, eq-eqb, eqb}
-use Rattle.lists.specs.Tests.{either, and-l, and-r}
+use Rattle.lists.specs.Basics.{_≡_, _&&_, ℕ, _+_, _*_, _/_, _%_, _<_, arith, eqb-true, eqb-false, eq-eqb, ne-eqb, eqb}
+use Rattle.lists.specs.Tests.{either}
 use Rattle.words.specs.{Fields.{low, field}, Rows.{PEER, OWNER, named}}
 use Rattle.item.specs.declared.Item.{Item}
 
@@ -42,8 +42,7 @@ module _ (w n p o k t v h f : ℕ) (e : w ≡ n + PEER * p + OWNER * o + KIND * 
   pub word-says : item-of w ≡ record { sn = n; peer = p; owner = o; kind = k; tn = t; value = v; hops = h; flags = f }
   unfolding item-of
   word-says =
-      let b7 : ℕ = f in
-      let b6 : ℕ = h + 8 * b7 in
+      let b6 : ℕ = h + 8 * f in
       let b5 : ℕ = v + 65536 * b6 in
       let b4 : ℕ = t + 65536 * b5 in
       let b3 : ℕ = k + 8 * b4 in
@@ -54,7 +53,7 @@ module _ (w n p o k t v h f : ℕ) (e : w ≡ n + PEER * p + OWNER * o + KIND * 
       let x3 : w / KIND % 8 ≡ k = field w KIND 8 (n + PEER * p + OWNER * o) k b4 (omega arith) (omega arith) hk in
       let x4 : w / TN % 65536 ≡ t = field w TN 65536 (n + PEER * p + OWNER * o + KIND * k) t b5 (omega arith) (omega arith) ht in
       let x5 : w / VALUE % 65536 ≡ v = field w VALUE 65536 (n + PEER * p + OWNER * o + KIND * k + TN * t) v b6 (omega arith) (omega arith) hv in
-      let x6 : w / HOPS % 8 ≡ h = field w HOPS 8 (n + PEER * p + OWNER * o + KIND * k + TN * t + VALUE * v) h b7 (omega arith) (omega arith) hh in
+      let x6 : w / HOPS % 8 ≡ h = field w HOPS 8 (n + PEER * p + OWNER * o + KIND * k + TN * t + VALUE * v) h f (omega arith) (omega arith) hh in
       let x7 : w / FLAGS % 4 ≡ f = field w FLAGS 4 (n + PEER * p + OWNER * o + KIND * k + TN * t + VALUE * v + HOPS * h) f 0 (omega arith) (omega arith) hf in
       rw (x0, x1, x2, x3, x4, x5, x6, x7)
 
@@ -75,16 +74,8 @@ module _ (w : ℕ) where
 -- SN and peer are the lowest part of a word
 pub by-name : (p n : ℕ) → n < 65536 → (w : ℕ) → (eqb (item-of w .peer) p && eqb (item-of w .sn) n) ≡ named p n w
 unfolding item-of named
-by-name p n hn w = either (eqb (w % OWNER) (n + PEER * p))
-    (λ e.
-    let x = eqb-true (w % OWNER) (n + PEER * p) e in
-    let a : w / PEER % 16 ≡ p = omega arith in
-    let b : w % PEER ≡ n = omega arith in
-    rw (e, eq-eqb _ _ a, eq-eqb _ _ b))
-    (λ e. rw e (either (eqb (w / PEER % 16) p && eqb (w % PEER) n)
-    (λ f.
-    let x = eqb-true (w / PEER % 16) p (and-l (eqb (w / PEER % 16) p) _ f) in
-    let y = eqb-true (w % PEER) n (and-r (eqb (w / PEER % 16) p) _ f) in
-    let z : w % OWNER ≡ n + PEER * p = omega arith in
-    f ∙ sym (eq-eqb _ _ z) ∙ e)
-    (λ f. f)))
+by-name p n hn w = either (eqb (w / PEER % 16) p)
+    (λ a. either (eqb (w % PEER) n)
+    (λ b. rw (a, b, eq-eqb (w % OWNER) (n + PEER * p) (omega (arith, eqb-true))))
+    (λ b. rw (a, b, ne-eqb (w % OWNER) (n + PEER * p) (λ z. omega (arith, eqb-false)))))
+    (λ a. rw (a, ne-eqb (w % OWNER) (n + PEER * p) (λ z. omega (arith, eqb-false))))

@@ -44,58 +44,42 @@ module _ (ws : List ℕ) where
   top-at = rw (part-at 0 NUMBERS TOP ws 0 (omega arith))
 
   module _ (s : ℕ) where
-    pub sn-at : s < 16 → getD ws (SN + s) 0 % 65536 ≡ memory-view ws .sn s
-    unfolding memory-view as-map
-    sn-at h = sym (List·getD-map (_% 65536) (part SN 16 ws) s 0 ∙ ap (_% 65536) (part-at SN 16 s ws 0 h))
+    -- one of the 16 words of 16 bits from b on, and past the last
+    pub word-at : (b : ℕ) → s < 16 → getD ws (b + s) 0 % 65536 ≡ as-map 0 (map (_% 65536) (part b 16 ws)) s
+    unfolding as-map
+    word-at b h = sym (List·getD-map (_% 65536) (part b 16 ws) s 0 ∙ ap (_% 65536) (part-at b 16 s ws 0 h))
+
+    pub no-word : (b : ℕ) → b + 16 ≤ length ws → 16 ≤ s → 0 ≡ as-map 0 (map (_% 65536) (part b 16 ws)) s
+    no-word b fits h = sym (map-beyond 0 (map (_% 65536) (part b 16 ws)) s (omega (arith, length-map (part b 16 ws) (_% 65536), part-length b 16 ws fits)))
 
     pub mark-at : s < 16 → getD ws (MARK + s) 0 % 65536 ≡ memory-view ws .mark s
-    unfolding memory-view as-map
-    mark-at h = sym (List·getD-map (_% 65536) (part MARK 16 ws) s 0 ∙ ap (_% 65536) (part-at MARK 16 s ws 0 h))
+    unfolding memory-view
+    mark-at = word-at MARK
 
     pub window-at : s < 16 → bits (getD ws (WINDOW + s) 0) ≡ memory-view ws .window s
     unfolding memory-view as-map
     window-at h = ap bits (sym (part-at WINDOW 16 s ws 0 h))
 
-    module _ (size : length ws ≡ MEMORY) (h : 16 ≤ s) where
-      pub no-sn : 0 ≡ memory-view ws .sn s
-      unfolding memory-view
-      no-sn = sym (map-beyond 0 (map (_% 65536) (part SN 16 ws)) s (omega (arith, length-map (part SN 16 ws) (_% 65536), part-length SN 16 ws (omega arith))))
-
-      pub no-mark : 0 ≡ memory-view ws .mark s
-      unfolding memory-view
-      no-mark = sym (map-beyond 0 (map (_% 65536) (part MARK 16 ws)) s (omega (arith, length-map (part MARK 16 ws) (_% 65536), part-length MARK 16 ws (omega arith))))
-
-      pub no-window : bits 0 ≡ memory-view ws .window s
-      unfolding memory-view
-      no-window = ap bits (sym (map-beyond 0 (part WINDOW 16 ws) s (omega (arith, part-length WINDOW 16 ws (omega arith)))))
+    pub no-window : length ws ≡ MEMORY → 16 ≤ s → bits 0 ≡ memory-view ws .window s
+    unfolding memory-view
+    no-window size h = ap bits (sym (map-beyond 0 (part WINDOW 16 ws) s (omega (arith, part-length WINDOW 16 ws (omega arith)))))
 
 -- ---- a row put anew
 module _ (ws ys : List ℕ) (size : length ws ≡ MEMORY) (long : length ys ≡ ROW) where
+  row-put : (a : ℕ) → TABLE ≤ a → a + ROW ≤ MEMORY → {t l : List ℕ} → part TABLE ROW (put a ROW ws ys) ≡ t → part LOG ROW (put a ROW ws ys) ≡ l
+      → memory-view (put a ROW ws ys) ≡ with-log (with-table (memory-view ws) (tickets.entries t)) (logs.entries l)
+  unfolding memory-view
+  row-put a low room p q =
+      let kept = part-before a ROW ws ys (omega arith) long in
+      rw (kept 0 NUMBERS (omega arith), kept SN 16 (omega arith), kept MARK 16 (omega arith), kept WINDOW 16 (omega arith), p, q)
+
   pub log-put : memory-view (put LOG ROW ws ys) ≡ with-log (memory-view ws) (logs.entries ys)
   unfolding memory-view
-  log-put =
-      let fits : LOG + ROW ≤ length ws = omega arith in
-      rw (
-        part-before LOG ROW ws ys fits long 0 NUMBERS (omega arith),
-        part-before LOG ROW ws ys fits long SN 16 (omega arith),
-        part-before LOG ROW ws ys fits long MARK 16 (omega arith),
-        part-before LOG ROW ws ys fits long WINDOW 16 (omega arith),
-        part-before LOG ROW ws ys fits long TABLE ROW (omega arith),
-        part-put LOG ROW ws ys fits long,
-      )
+  log-put = row-put LOG (omega arith) (omega arith) (part-before LOG ROW ws ys (omega arith) long TABLE ROW (omega arith)) (part-put LOG ROW ws ys (omega arith) long)
 
   pub table-put : memory-view (put TABLE ROW ws ys) ≡ with-table (memory-view ws) (tickets.entries ys)
   unfolding memory-view
-  table-put =
-      let fits : TABLE + ROW ≤ length ws = omega arith in
-      rw (
-        part-before TABLE ROW ws ys fits long 0 NUMBERS (omega arith),
-        part-before TABLE ROW ws ys fits long SN 16 (omega arith),
-        part-before TABLE ROW ws ys fits long MARK 16 (omega arith),
-        part-before TABLE ROW ws ys fits long WINDOW 16 (omega arith),
-        part-put TABLE ROW ws ys fits long,
-        part-behind TABLE ROW ws ys fits long LOG ROW (omega arith),
-      )
+  table-put = row-put TABLE (omega arith) (omega arith) (part-put TABLE ROW ws ys (omega arith) long) (part-behind TABLE ROW ws ys (omega arith) long LOG ROW (omega arith))
 
   -- as the functions on the rows answer
   pub log-changed : (f : List Logged → List Logged) → logs.entries ys ≡ f (logs.entries (part LOG ROW ws)) → memory-view (put LOG ROW ws ys) ≡ with-log (memory-view ws) (f (memory-view ws .log))

@@ -20,12 +20,9 @@ module _ (xs : List ℕ) (l : List Bool) (n : ℕ) (e : n ≡ first-no 2 l) wher
   unfolding outcome judged
   refused o h = record { gives = rw (asks-first 2 l o (λ z. h (e ∙ z)), ← e); stays = λ m q. refl }
 
-  passed : (o : Outcome) → n ≡ 0 → judged (view xs) (asks 2 l o) ≡ o
-  unfolding judged
-  passed o h = rw (yes-asks 2 l o (first-no-yes 1 l (sym e ∙ h)))
-
   pub answered : (ys : List ℕ) (a : Answer) (o : Outcome) → ((m : ℕ) → a ≢ Refused m) → n ≡ 0 → outcome ys a ≡ o → Framed xs ys a (judged (view xs) (asks 2 l o))
-  answered ys a o d h q = record { gives = q ∙ sym (passed o h); stays = λ m z. absurd (d m z) }
+  unfolding judged
+  answered ys a o d h q = record { gives = rw (yes-asks 2 l o (first-no-yes 1 l (sym e ∙ h))) q; stays = λ m z. absurd (d m z) }
 
   pub accepted : (ys : List ℕ) (s : State) → n ≡ 0 → view ys ≡ s → Framed xs ys Accepted (tried (view xs) l s)
   unfolding outcome tried

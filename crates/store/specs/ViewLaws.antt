@@ -1,18 +1,15 @@
 -- A part of the store put anew changes that part of the view, and no other. All arithmetic on places is here.
-use Rattle.lists.specs.Basics.{_≡_, refl, sym, ap, _∙_, fun-ext, Bool, List, inl, ℕ, _+_, _≤_, _<_, arith, eqb, length, set}
-use Rattle.lists.specs.Map.{upd, upd-ind, upd-same, upd-other}
+use Rattle.lists.specs.Basics.{_≡_, refl, sym, ap, _∙_, Bool, List, inl, ℕ, _+_, _<_, arith, eqb, length, set}
+use Rattle.lists.specs.Map.{upd}
 use Rattle.protocol.specs.{declared.Status.Status, Parts.{Job, State, Memory, with-lost, with-status, with-memory, with-copies, with-notes, with-wire}}
-use Rattle.words.specs.{Part.{part, put, put-length, part-length, part-put, part-behind}, Slots.{slots, slot-here, slots-before, slots-behind, slots-put, slots-set}, Copy.Apart}
+use Rattle.words.specs.{Part.{part, put, put-length, part-length, part-put, part-behind}, PartSet.part-set-before, Copy.Apart}
+use Rattle.words.specs.{Slots.{slots, slot-here, slots-before, slots-behind, slots-put, slots-set}}
 use Rattle.head.specs.{Head.{HEAD, LOST, STATUS, HELD, TARGET, job-of, lost-of, status-of, held-of, target-of, as-status}, Kept.{Says, head-kept, head-put}}
-use Rattle.head.specs.{Sets.{behind-set, set-lost, set-status, set-held, set-target}}
+use Rattle.head.specs.{Sets.{over, set-lost, set-status, set-held, set-target}}
 use Rattle.notelist.specs.Notes.{notes}
 use Rattle.packets.specs.Words.{packets}
 use Rattle.memory.specs.{Places.MEMORY, View.memory-view}
 use Rattle.store.specs.{Places.{LIVE, COPY, NOTES, NOTELIST, WIRE, PACKETS, STORE, live-from, copy-from, notes-from}, View.view}
-
--- a map of a map, changed at one key
-pub over : {A B : Type 0} (f : A → B) (k : ℕ) (v : A) (g : ℕ → A) → (λ i. f (upd k v g i)) ≡ upd k (f v) (λ i. f (g i))
-over f k v g = fun-ext (upd-ind (λ i w. f (upd k v g i) ≡ w) k (f v) (λ i. f (g i)) (ap f (upd-same k v g)) (λ i d. ap f (upd-other k v g i d)))
 
 -- the copy of chare c becomes m
 abbrev pub with-copy : State → ℕ → Memory → State
@@ -42,23 +39,25 @@ module _ (xs : List ℕ) where
   unfolding view
   notes-at p h = ap notes (slot-here NOTES NOTELIST 7 xs p h)
 
+-- a list whose head says this and that has these parts
+shown : (vs : List ℕ) {j : Job} {l : Bool} {s : ℕ → Status} {h : ℕ → Bool} {t : ℕ → ℕ} {a b c : ℕ → List ℕ} {d : List ℕ}
+    → Says vs j l s h t → slots LIVE MEMORY 13 vs ≡ a → slots COPY MEMORY 13 vs ≡ b → slots NOTES NOTELIST 7 vs ≡ c → part WIRE PACKETS vs ≡ d
+    → view vs ≡ record { job = j; lost = l; status = s; target = t; live = λ i. memory-view (a i); held = h; copy = λ i. memory-view (b i); notes = λ i. notes (c i); wire = packets d }
+unfolding view
+shown vs says p q r e = rw (says .job, says .lost, says .status, says .held, says .target, p, q, r, e)
+
 -- ---- one word of the head set
 module _ (xs : List ℕ) (size : length xs ≡ STORE) (w : ℕ) where
   -- what the head then says
   said : (i : ℕ) → i < HEAD → {j : Job} {l : Bool} {s : ℕ → Status} {h : ℕ → Bool} {t : ℕ → ℕ} → Says (set xs i w) j l s h t
       → view (set xs i w) ≡ record { job = j; lost = l; status = s; target = t; live = view xs .live; held = h; copy = view xs .copy; notes = view xs .notes; wire = view xs .wire }
   unfolding view
-  said i low says = rw (
-    says .job,
-    says .lost,
-    says .status,
-    says .held,
-    says .target,
-    slots-set LIVE MEMORY 13 xs i w (omega arith),
-    slots-set COPY MEMORY 13 xs i w (omega arith),
-    slots-set NOTES NOTELIST 7 xs i w (omega arith),
-    behind-set WIRE PACKETS xs i w low (omega arith),
-  )
+  said i low says =
+      shown (set xs i w) says
+      (slots-set LIVE MEMORY 13 xs i w (omega arith))
+      (slots-set COPY MEMORY 13 xs i w (omega arith))
+      (slots-set NOTES NOTELIST 7 xs i w (omega arith))
+      (part-set-before WIRE PACKETS xs w i (omega arith))
 
   pub lost-set : view (set xs LOST w) ≡ with-lost (view xs) (eqb w 1)
   unfolding view
@@ -85,63 +84,36 @@ module _ (xs : List ℕ) (size : length xs ≡ STORE) where
     pub whole-head-put : view (put 0 HEAD xs ys) ≡ with-head (view xs) ys
     unfolding view
     whole-head-put =
-        let fits : 0 + HEAD ≤ length xs = omega arith in
-        let says = head-put xs ys (omega arith) long in
-        rw (
-          says .job,
-          says .lost,
-          says .status,
-          says .held,
-          says .target,
-          slots-behind LIVE MEMORY 13 xs 0 HEAD ys fits long (omega arith),
-          slots-behind COPY MEMORY 13 xs 0 HEAD ys fits long (omega arith),
-          slots-behind NOTES NOTELIST 7 xs 0 HEAD ys fits long (omega arith),
-          part-behind 0 HEAD xs ys fits long WIRE PACKETS (omega arith),
-        )
+        shown (put 0 HEAD xs ys) (head-put xs ys (omega arith) long)
+        (slots-behind LIVE MEMORY 13 xs 0 HEAD ys (omega arith) long (omega arith))
+        (slots-behind COPY MEMORY 13 xs 0 HEAD ys (omega arith) long (omega arith))
+        (slots-behind NOTES NOTELIST 7 xs 0 HEAD ys (omega arith) long (omega arith))
+        (part-behind 0 HEAD xs ys (omega arith) long WIRE PACKETS (omega arith))
 
   -- ---- chare c
   module _ (c : ℕ) (h : c < 13) (ys : List ℕ) (long : length ys ≡ MEMORY) where
     pub live-length : length (put (live-from c) MEMORY xs ys) ≡ STORE
     live-length = put-length (live-from c) MEMORY xs ys (omega arith) long ∙ size
 
-    pub copy-length : length (put (copy-from c) MEMORY xs ys) ≡ STORE
-    copy-length = put-length (copy-from c) MEMORY xs ys (omega arith) long ∙ size
-
     pub live-put : view (put (live-from c) MEMORY xs ys) ≡ with-memory (view xs) c (memory-view ys)
     unfolding view
     live-put =
-        let fits : live-from c + MEMORY ≤ length xs = omega arith in
-        let kept = head-kept (live-from c) MEMORY xs ys fits long (omega arith) in
-        rw (
-          kept .job,
-          kept .lost,
-          kept .status,
-          kept .held,
-          kept .target,
-          slots-put LIVE MEMORY 13 xs c ys h (omega arith) long,
-          slots-behind COPY MEMORY 13 xs (live-from c) MEMORY ys fits long (omega arith),
-          slots-behind NOTES NOTELIST 7 xs (live-from c) MEMORY ys fits long (omega arith),
-          part-behind (live-from c) MEMORY xs ys fits long WIRE PACKETS (omega arith),
-          over memory-view c ys (slots LIVE MEMORY 13 xs),
-        )
+        shown (put (live-from c) MEMORY xs ys) (head-kept (live-from c) MEMORY xs ys (omega arith) long (omega arith))
+        (slots-put LIVE MEMORY 13 xs c ys h (omega arith) long)
+        (slots-behind COPY MEMORY 13 xs (live-from c) MEMORY ys (omega arith) long (omega arith))
+        (slots-behind NOTES NOTELIST 7 xs (live-from c) MEMORY ys (omega arith) long (omega arith))
+        (part-behind (live-from c) MEMORY xs ys (omega arith) long WIRE PACKETS (omega arith))
+        ∙ rw (over memory-view c ys (slots LIVE MEMORY 13 xs))
 
     pub copy-put : view (put (copy-from c) MEMORY xs ys) ≡ with-copy (view xs) c (memory-view ys)
     unfolding view
     copy-put =
-        let fits : copy-from c + MEMORY ≤ length xs = omega arith in
-        let kept = head-kept (copy-from c) MEMORY xs ys fits long (omega arith) in
-        rw (
-          kept .job,
-          kept .lost,
-          kept .status,
-          kept .held,
-          kept .target,
-          slots-before LIVE MEMORY 13 xs (copy-from c) MEMORY ys fits long (omega arith),
-          slots-put COPY MEMORY 13 xs c ys h (omega arith) long,
-          slots-behind NOTES NOTELIST 7 xs (copy-from c) MEMORY ys fits long (omega arith),
-          part-behind (copy-from c) MEMORY xs ys fits long WIRE PACKETS (omega arith),
-          over memory-view c ys (slots COPY MEMORY 13 xs),
-        )
+        shown (put (copy-from c) MEMORY xs ys) (head-kept (copy-from c) MEMORY xs ys (omega arith) long (omega arith))
+        (slots-before LIVE MEMORY 13 xs (copy-from c) MEMORY ys (omega arith) long (omega arith))
+        (slots-put COPY MEMORY 13 xs c ys h (omega arith) long)
+        (slots-behind NOTES NOTELIST 7 xs (copy-from c) MEMORY ys (omega arith) long (omega arith))
+        (part-behind (copy-from c) MEMORY xs ys (omega arith) long WIRE PACKETS (omega arith))
+        ∙ rw (over memory-view c ys (slots COPY MEMORY 13 xs))
 
     pub wire-kept : part WIRE PACKETS (put (live-from c) MEMORY xs ys) ≡ part WIRE PACKETS xs
     wire-kept = part-behind (live-from c) MEMORY xs ys (omega arith) long WIRE PACKETS (omega arith)
@@ -162,36 +134,20 @@ module _ (xs : List ℕ) (size : length xs ≡ STORE) where
     pub notes-put : view (put (notes-from p) NOTELIST xs ys) ≡ with-notes (view xs) (upd p (notes ys) (view xs .notes))
     unfolding view
     notes-put =
-        let fits : notes-from p + NOTELIST ≤ length xs = omega arith in
-        let kept = head-kept (notes-from p) NOTELIST xs ys fits long (omega arith) in
-        rw (
-          kept .job,
-          kept .lost,
-          kept .status,
-          kept .held,
-          kept .target,
-          slots-before LIVE MEMORY 13 xs (notes-from p) NOTELIST ys fits long (omega arith),
-          slots-before COPY MEMORY 13 xs (notes-from p) NOTELIST ys fits long (omega arith),
-          slots-put NOTES NOTELIST 7 xs p ys h (omega arith) long,
-          part-behind (notes-from p) NOTELIST xs ys fits long WIRE PACKETS (omega arith),
-          over notes p ys (slots NOTES NOTELIST 7 xs),
-        )
+        shown (put (notes-from p) NOTELIST xs ys) (head-kept (notes-from p) NOTELIST xs ys (omega arith) long (omega arith))
+        (slots-before LIVE MEMORY 13 xs (notes-from p) NOTELIST ys (omega arith) long (omega arith))
+        (slots-before COPY MEMORY 13 xs (notes-from p) NOTELIST ys (omega arith) long (omega arith))
+        (slots-put NOTES NOTELIST 7 xs p ys h (omega arith) long)
+        (part-behind (notes-from p) NOTELIST xs ys (omega arith) long WIRE PACKETS (omega arith))
+        ∙ rw (over notes p ys (slots NOTES NOTELIST 7 xs))
 
   -- ---- the wire
   module _ (ys : List ℕ) (long : length ys ≡ PACKETS) where
     pub wire-put : view (put WIRE PACKETS xs ys) ≡ with-wire (view xs) (packets ys)
     unfolding view
     wire-put =
-        let fits : WIRE + PACKETS ≤ length xs = omega arith in
-        let kept = head-kept (WIRE) PACKETS xs ys fits long (omega arith) in
-        rw (
-          kept .job,
-          kept .lost,
-          kept .status,
-          kept .held,
-          kept .target,
-          slots-before LIVE MEMORY 13 xs WIRE PACKETS ys fits long (omega arith),
-          slots-before COPY MEMORY 13 xs WIRE PACKETS ys fits long (omega arith),
-          slots-before NOTES NOTELIST 7 xs WIRE PACKETS ys fits long (omega arith),
-          part-put WIRE PACKETS xs ys fits long,
-        )
+        shown (put WIRE PACKETS xs ys) (head-kept WIRE PACKETS xs ys (omega arith) long (omega arith))
+        (slots-before LIVE MEMORY 13 xs WIRE PACKETS ys (omega arith) long (omega arith))
+        (slots-before COPY MEMORY 13 xs WIRE PACKETS ys (omega arith) long (omega arith))
+        (slots-before NOTES NOTELIST 7 xs WIRE PACKETS ys (omega arith) long (omega arith))
+        (part-put WIRE PACKETS xs ys (omega arith) long)

@@ -1,6 +1,6 @@
 -- A loop through the chares, or the machines, of a store that changes some of them: w says which, f what they become, g is the map before.
-use Rattle.lists.specs.Basics.{_≡_, sym, _∙_, fun-ext, Bool, true, false, cond, List, [], _≢_, inl, inr, ℕ, _+_, _<_, _≤_, arith, lt-ltb, le-ltb, ltb, eqb, length, set, length-set}
-use Rattle.lists.specs.{Tests.{either, eq?, lt?}, Map.{upd, upd-ind}}
+use Rattle.lists.specs.Basics.{_≡_, sym, _∙_, fun-ext, Bool, true, false, cond, List, [], inl, inr, ℕ, _+_, _<_, _≤_, arith, lt-ltb, le-ltb, ltb, eqb, length, set, length-set}
+use Rattle.lists.specs.{Tests.{either, lt?}, Map.{upd, upd-ind, upd-self}}
 use Rattle.arrays.specs.ArrayMap.{as-map}
 use Rattle.protocol.specs.{declared.Note.Note, Parts.{blank, with-copies}}
 use Rattle.window.specs.BitLaws.{no-bits}
@@ -35,32 +35,27 @@ module _ {A : Type 0} (w : ℕ → Bool) (f g : ℕ → A) where
   pub visit-here : (k : ℕ) → visited k k ≡ g k
   visit-here k = above k k (omega arith)
 
-  other : (k i : ℕ) → i ≢ k → visited k i ≡ visited (k + 1) i
-  other k i n = elim (lt? i k) [
+  step : (k : ℕ) (v : A) → v ≡ chosen k → upd k v (visited k) ≡ visited (k + 1)
+  step k v q = fun-ext (upd-ind (λ i x. x ≡ visited (k + 1) i) k v (visited k) (q ∙ sym (below (k + 1) k (omega arith))) (λ i n. elim (lt? i k) [
     | inl l ↦ below k i l ∙ sym (below (k + 1) i (omega arith))
-    | inr l ↦ above k i l ∙ sym (above (k + 1) i (later n l))
-  ]
-    where
-      later : i ≢ k → k ≤ i → k + 1 ≤ i
-      later n l = omega arith
+    | inr l ↦ above k i l ∙ sym (above (k + 1) i (omega arith))
+  ]))
 
   pub visit-hit : (k : ℕ) → w k ≡ true → (v : A) → v ≡ f k → upd k v (visited k) ≡ visited (k + 1)
   unfolding chosen
-  visit-hit k e v q = fun-ext (upd-ind (λ i x. x ≡ visited (k + 1) i) k v (visited k) (sym (below (k + 1) k (omega arith) ∙ rw e (sym q))) (other k))
+  visit-hit k e v q = step k v (q ∙ rw e)
 
   pub visit-miss : (k : ℕ) → w k ≡ false → visited k ≡ visited (k + 1)
   unfolding chosen
-  visit-miss k e = fun-ext (λ i. elim (eq? i k) [
-    | inl q ↦ rw q (visit-here k ∙ sym (below (k + 1) k (omega arith) ∙ rw e))
-    | inr n ↦ other k i n
-  ])
+  visit-miss k e = sym (upd-self k (visited k)) ∙ step k (visited k k) (visit-here k ∙ rw e)
 
   -- the loop has passed all; from n on there is nothing to change
   pub visit-all : (k n : ℕ) → n ≤ k → ((i : ℕ) → n ≤ i → f i ≡ g i) → visited k ≡ chosen
-  visit-all k n h e = fun-ext (λ i. elim (lt? i k) [ inl l ↦ below k i l | inr l ↦ above k i l ∙ sym (past i (e i (omega arith))) ])
-    where
-      past : (i : ℕ) → f i ≡ g i → chosen i ≡ g i
-      past i q = unfold chosen in rw q (either (w i) (λ x. rw x) (λ x. rw x))
+  unfolding chosen
+  visit-all k n h e = fun-ext (λ i. elim (lt? i k) [
+    | inl l ↦ below k i l
+    | inr l ↦ above k i l ∙ either (w i) (λ x. rw (x, e i (omega arith))) (λ x. rw x)
+  ])
 
 -- ---- past the last there is nothing
 no-memory : memory-view [] ≡ blank
@@ -82,11 +77,8 @@ module _ (xs : List ℕ) (i : ℕ) where
 
 -- ---- whether the copy of machine p is held, and its notes, put anew
 module _ (xs : List ℕ) (size : length xs ≡ STORE) (p : ℕ) (h : p < 7) (w : ℕ) (ys : List ℕ) (long : length ys ≡ NOTELIST) where
-  set-size : length (set xs (HELD + p) w) ≡ STORE
-  set-size = simp length-set size
-
   pub held-length : length (put (notes-from p) NOTELIST (set xs (HELD + p) w) ys) ≡ STORE
-  held-length = notes-length (set xs (HELD + p) w) set-size p h ys long
+  held-length = notes-length (set xs (HELD + p) w) (simp length-set size) p h ys long
 
   pub held-put : (l : List Note) → notes ys ≡ l → view (put (notes-from p) NOTELIST (set xs (HELD + p) w) ys) ≡ with-copies (view xs) (upd p (eqb w 1) (view xs .held)) (view xs .copy) (upd p l (view xs .notes))
-  held-put l e = notes-put (set xs (HELD + p) w) set-size p h ys long ∙ rw (held-set xs size w p h, e)
+  held-put l e = notes-put (set xs (HELD + p) w) (simp length-set size) p h ys long ∙ rw (held-set xs size w p h, e)

@@ -1,11 +1,11 @@
 -- `head::cell` meets its contract: 0 at 0, the clamped word elsewhere.
 use Rattle.lists.specs.Basics.{needs}
-use Rattle.head.specs.Cells.{cell-zero, cell-read}
+use Rattle.head.specs.{Head.cell, Cells.cell-read}
 use Rattle.head.proofs.cell.Statement.{statement}
 use Rattle.head.proofs.cell.Tie as tie
 
 returns : tie.Need-returns
-returns c = (cell-zero _ _ _ (c .if1 .taken), search needs)
+returns c = (unfold cell in rw (c .if1 .taken), search needs)
 
 returns-2 : tie.Need-returns-2
 returns-2 c = cell-read _ _ _ (c .before .before .if1 .left) _ _ (c .before .word .ensures) (c .at-most .ensures)

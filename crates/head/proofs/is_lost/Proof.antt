@@ -1,11 +1,13 @@
 -- `head::is_lost` meets its contract: the second word.
-use Rattle.lists.specs.Basics.{needs}
-use Rattle.head.specs.HeadLaws.{lost-word}
+use Rattle.lists.specs.Basics.{arith, needs}
+use Rattle.words.specs.Part.{part-at}
+use Rattle.head.specs.Head.{LOST, lost-of}
 use Rattle.head.proofs.is_lost.Statement.{statement}
 use Rattle.head.proofs.is_lost.Tie as tie
 
 returns : tie.Need-returns
-returns c = lost-word _
+unfolding lost-of
+returns c = rw (part-at 0 4 LOST (c .before .args .h .now) 0 (omega arith))
 
 pub is-lost-spec : {M : Type 1} → statement M
 is-lost-spec = tie.close (tie.spec (λ c. search needs) returns)
