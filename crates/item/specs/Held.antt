@@ -1,6 +1,6 @@
 -- What a row of words holds, one thing a word: f says what a word means.
 use Rattle.lists.specs.Basics.{_≡_, ap, _∙_, Bool, false, List, [], _∷_, map, ℕ, _+_, _-_, _≤_, _<_, arith, add-one, length, getD, drop, length-map, List·getD-map, drop-of-length-le, drop-cons}
-use Rattle.lists.specs.Lists.{keep}
+use Rattle.lists.specs.Lists.{keep, anyb}
 use Rattle.arrays.specs.{Front.push, Place.place}
 use Rattle.words.specs.{Rows.{row, row-length, row-at}, Mapped.map-push}
 
@@ -15,6 +15,10 @@ module _ {A : Type 0} (f : ℕ → A) (ws : List ℕ) where
   module _ (i : ℕ) where
     pub held-next : i < length (row ws) → drop i (map f (row ws)) ≡ f (getD ws (i + 1) 0) ∷ drop (i + 1) (map f (row ws))
     held-next h = drop-cons (map f (row ws)) i (f 0) (rw length-map h) ∙ rw (List·getD-map f (row ws) i 0, row-at ws i h, add-one i)
+
+    pub held-miss : (p : A → Bool) → i < length (row ws) → p (f (getD ws (i + 1) 0)) ≡ false → anyb p (drop i (map f (row ws))) ≡ anyb p (drop (i + 1) (map f (row ws)))
+    unfolding anyb
+    held-miss p h e = rw (held-next h, e)
 
     pub held-end : length (row ws) ≤ i → drop i (map f (row ws)) ≡ []
     held-end h = drop-of-length-le (map f (row ws)) {i = i} (rw length-map h)

@@ -1,5 +1,5 @@
 use Rattle.lists.specs.Basics.{drop, arith, _-_, _≤_, _≡_, refl, sym, ap, _∙_, eq-eqb, ne-eqb, needs}
-use Rattle.item.specs.Held.{held-next, held-end}
+use Rattle.item.specs.Held.{held-next, held-miss, held-end}
 use Rattle.tickets.specs.Table.{entry-of, as-entry, entries}
 use Rattle.protocol.specs.Tickets.{has-tn}
 use Rattle.lists.specs.Lists.{anyb}
@@ -23,11 +23,11 @@ returns c =
     sym (l .inv .1 ∙ ap (anyb _) (held-next entry-of _ (l .i) (omega arith)) ∙ rw (eq-eqb _ _ (sym (t .tn .ensures) ∙ c .if1 .taken)))
 
 loop-again : tie.Need-loop-again Inv-loop μ-loop
-unfolding entries entry-of as-entry anyb has-tn
+unfolding entries entry-of as-entry has-tn
 loop-again c =
     let t = c .before in
     let l = t .before .before .before .loop in
-    (search needs, l .inv .1 ∙ ap (anyb _) (held-next entry-of _ (l .i) (omega arith)) ∙ rw (ne-eqb _ _ (λ q. c .if1 .left (t .tn .ensures ∙ q))))
+    (search needs, l .inv .1 ∙ held-miss entry-of _ (l .i) (has-tn _) (omega arith) (ne-eqb _ _ (λ q. c .if1 .left (t .tn .ensures ∙ q))))
 
 returns-2 : tie.Need-returns-2 Inv-loop μ-loop
 unfolding entries anyb
