@@ -1,5 +1,6 @@
 -- What a row of words holds, one thing a word: f says what a word means.
-use Rattle.lists.specs.Basics.{_≡_, ap, _∙_, Bool, false, List, [], _∷_, map, ℕ, _+_, _-_, _≤_, _<_, arith, add-one, length, getD, drop, length-map, List·getD-map, drop-of-length-le, drop-cons}
+use Rattle.lists.specs.Basics.{_≡_, ap, _∙_, Bool, false, List, [], _∷_, map, ℕ, _+_, _-_, _≤_, _<_, arith, add-one, length, getD, drop}
+use Rattle.lists.specs.Basics.{length-map, List·getD-map, drop-of-length-le, drop-cons}
 use Rattle.lists.specs.Lists.{keep, anyb}
 use Rattle.arrays.specs.{Front.push, Place.place}
 use Rattle.words.specs.{Rows.{row, row-length, row-at}, Mapped.map-push}

@@ -1,5 +1,5 @@
 -- What is found on a wire, and the wire without it.
-use Rattle.lists.specs.Basics.{Bool, List, Option, some, none, _≡_, refl, sym, ap, _∙_, ℕ, _<_, _≤_, arith, length, getD}
+use Rattle.lists.specs.Basics.{Bool, List, Option, some, none, _≡_, refl, ap, _∙_, ℕ, _<_, _≤_, arith, length, getD}
 use Rattle.lists.specs.Lists.{find, remove1}
 use Rattle.arrays.specs.Place.{place, remove-there}
 use Rattle.protocol.specs.declared.Packet.{Packet}

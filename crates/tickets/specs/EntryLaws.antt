@@ -1,6 +1,6 @@
 -- One word as an entry: its fields, its name, and what changes of it fit a word again.
-use Rattle.lists.specs.Basics.{_≡_, refl, Bool, true, false, ℕ, _+_, _*_, _/_, _%_, _<_, mod-eq-of-lt, eqb}
-use Rattle.protocol.specs.{declared.Entry.Entry, Tickets.{for-message, fill, note-entry}}
+use Rattle.lists.specs.Basics.{_≡_, refl, Bool, true, false, ℕ, _+_, _*_, _/_, _%_, _<_, mod-eq-of-lt, eqb, ltb}
+use Rattle.protocol.specs.{declared.Entry.Entry, Tickets.{for-message, fill, note-entry}, Checkpoint.above-height}
 use Rattle.words.specs.{Fields.bit, Rows.named}
 use Rattle.item.specs.Item.{item-of, clipped, peer-small, hops-small, by-name as item-name}
 use Rattle.tickets.specs.Table.{entry-of, as-entry, fitted}
@@ -33,3 +33,8 @@ fitted-fill v h w e d = rw (d, mod-eq-of-lt (sender-small w))
 pub fitted-note : (w : ℕ) (e : Entry) → e ≡ entry-of w → fitted (note-entry e) ≡ note-entry (entry-of w)
 unfolding fitted note-entry entry-of as-entry
 fitted-note w e d = rw (d, mod-eq-of-lt (peer-small w), mod-eq-of-lt (hops-small w))
+
+-- above the height or not, by the TN read from the word
+pub above-is : (w h t : ℕ) → t ≡ item-of w .tn → above-height h (entry-of w) ≡ ltb h t
+unfolding above-height entry-of as-entry
+above-is w h t e = rw e

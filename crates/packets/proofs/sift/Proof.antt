@@ -1,5 +1,5 @@
 -- `packets::sift` meets its contract: i words are read, m of them are written back.
-use Rattle.lists.specs.Basics.{_≡_, refl, sym, _∙_, _-_, _≤_, _<_, arith, needs, length, length-set}
+use Rattle.lists.specs.Basics.{map, _≡_, refl, sym, _∙_, _-_, _≤_, _<_, arith, needs, length, length-set}
 use Rattle.lists.specs.Lists.{keep}
 use Rattle.words.specs.{Rows.row, Sift.{sifted, sift-start, sift-length, sift-keep, sift-skip, sift-end, map-same}}
 use Rattle.head.specs.Head.{job-of}
@@ -10,7 +10,7 @@ use Rattle.packets.proofs.sift.Tie as tie
 
 abbrev Inv-loop : tie.InvT-loop
 Inv-loop crash ws₀ h p n i₀ m₀ ws i m =
-    (m ≤ i) × (i ≤ n) × (n < length ws) × (length ws ≡ length ws₀) × (n ≡ length (row ws)) × (sifted unpacked (stays crash (job-of h) p) (λ x. x) ws i m ≡ keep (stays crash (job-of h) p) (packets ws₀))
+    (m ≤ i) × (i ≤ n) × (n < length ws) × (length ws ≡ length ws₀) × (n ≡ length (row ws)) × (sifted unpacked (stays crash (job-of h) p) (λ x. x) ws i m ≡ keep (stays crash (job-of h) p) (map unpacked (row ws₀)))
 
 abbrev μ-loop : tie.MeasureT-loop
 μ-loop crash ws₀ h p n i₀ m₀ ws i m = n - i
@@ -20,7 +20,6 @@ unfolding packets
 returns c = held-none unpacked _ (stays _ _ _) (λ x. x) (omega arith) ∙ map-same _
 
 loop-holds : tie.Need-loop-holds Inv-loop μ-loop
-unfolding packets
 loop-holds c = (search needs, search needs, omega arith, refl, c .before .count .ensures .0, sift-start unpacked (stays _ _ _) (λ x. x) _ ∙ map-same _)
 
 loop-again : tie.Need-loop-again Inv-loop μ-loop
