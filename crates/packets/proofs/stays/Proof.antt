@@ -9,7 +9,8 @@ returns : tie.Need-returns
 returns c =
     let d = c .before in
     let u = d .before in
-    sym (stays-is _ _ _ _ _ (u .unpack .ensures) _ (u .before .kind .ensures) _ (d .destination .ensures) ∙ rw (eq-eqb _ _ (c .if1 .taken)) (either (u .before .before .before .args .crash) (λ q. rw q) (λ q. rw q)))
+    sym (stays-is _ _ _ _ _ (u .unpack .ensures) _ (u .before .kind .ensures) _ (d .destination .ensures)
+    ∙ rw (eq-eqb _ _ (c .if1 .taken)) (either (u .before .before .before .args .crash) (λ q. rw q) (λ q. rw q)))
 
 returns-2 : tie.Need-returns-2
 returns-2 c =
