@@ -1,6 +1,5 @@
 -- What the contracts of logs say.
 pub mod Log
 pub mod Sorting
-pub mod Words
 pub mod CleanUp
 pub mod Fits

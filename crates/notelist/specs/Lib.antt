@@ -1,5 +1,4 @@
 -- What the contracts of notelist say.
 pub mod Notes
-pub mod Words
 pub mod Same
 pub mod Fits

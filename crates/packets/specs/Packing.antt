@@ -1,8 +1,8 @@
--- A packet made a word: the fields of its content, and the word that has them.
+-- A packet made a word: the fields of its content.
 use Rattle.lists.specs.Basics.{_≡_, ℕ, _%_}
-use Rattle.protocol.specs.{declared.Content.Content, declared.Packet.Packet}
-use Rattle.item.specs.{declared.Item.Item, Item.{item-of, clipped}}
-use Rattle.packets.specs.Words.{carried, content-of, as-packet, unpacked, fit-content, fitted}
+use Rattle.protocol.specs.declared.Content.{Content}
+use Rattle.item.specs.declared.Item.{Item}
+use Rattle.packets.specs.Words.{carried, fit-content}
 
 -- an item with nothing but its content
 unfoldable pub bare : ℕ → ℕ → ℕ → ℕ → ℕ → Item
@@ -13,9 +13,3 @@ pub record Packs (c : Content) (x : Item) : Type 0 where
 
 pub packs : (c : Content) (k f t v h : ℕ) (x : Item) → x ≡ bare k f t v h → carried (k % 8) (f % 4) t v (h % 8) ≡ fit-content c → Packs c x
 packs c k f t v h x e d = record { says = rw e (unfold bare in d) }
-
-pub packet-says : (w : ℕ) (p : Packet) (x : Item) → Packs (p .content) x →
-    item-of w ≡ clipped (record { sn = p .sn; peer = p .receiver; owner = p .sender; kind = x .kind; tn = x .tn; value = x .value; hops = x .hops; flags = x .flags }) →
-    unpacked w ≡ fitted p
-unfolding unpacked as-packet content-of fitted clipped
-packet-says w p x d e = rw (e, d .says)

@@ -1,9 +1,9 @@
--- What is found on a wire, and a wire with one packet more or less.
-use Rattle.lists.specs.Basics.{Bool, false, List, [], _∷_, map, Option, some, none, _≡_, refl, sym, ap, _∙_, ℕ, _-_, _<_, _≤_, arith, length, getD, length-map}
+-- What is found on a wire, and the wire without it.
+use Rattle.lists.specs.Basics.{Bool, List, Option, some, none, _≡_, refl, ap, _∙_, ℕ, _<_, _≤_, arith, length, getD}
 use Rattle.lists.specs.Lists.{find, remove1}
-use Rattle.arrays.specs.{Front.push, Place.{place, remove-there}}
+use Rattle.arrays.specs.Place.{place, remove-there}
 use Rattle.protocol.specs.declared.Packet.{Packet}
-use Rattle.words.specs.{Rows.{row, without}, Mapped.{find-at, find-no, place-map, map-push, map-without}}
+use Rattle.words.specs.{Rows.{row, without}, Mapped.{find-at, find-no, place-map}}
 use Rattle.packets.specs.{Words.{unpacked, packets}, declared.Found.Found, declared.Found.the-variants.{Nothing, At}}
 
 unfoldable pub found : Found → Option Packet
@@ -39,36 +39,10 @@ module _ (q : Packet → Bool) (l : List Packet) where
 
 -- a loop that seeks words by the test t has ended at i
 module _ (ws : List ℕ) (t : ℕ → Bool) (q : Packet → Bool) (same : (w : ℕ) → q (unpacked w) ≡ t w) (i : ℕ) (e : i ≡ place t (row ws)) where
-  there : i ≡ place q (packets ws)
-  unfolding packets
-  there = e ∙ sym (place-map unpacked t q same (row ws))
-
   pub sought-at : (x : Packet) → x ≡ unpacked (getD (row ws) i 0) → i < length (row ws) → At i x ≡ sought q (packets ws)
   unfolding sought found-at packets
-  sought-at x d h = rw (find-at unpacked t q same (row ws) i e h, ← there, ← d)
+  sought-at x d h = rw (find-at unpacked t q same (row ws) i e h, place-map unpacked t q same (row ws), ← e, ← d)
 
   pub sought-none : length (row ws) ≤ i → Nothing ≡ sought q (packets ws)
   unfolding sought found-at packets
   sought-none h = rw (find-no unpacked t q same (row ws) i e h)
-
--- no word passes
-find-never : (q : Packet → Bool) → ((w : ℕ) → q (unpacked w) ≡ false) → (l : List ℕ) → find q (map unpacked l) ≡ none
-unfolding find
-find-never q none-does [] = refl
-find-never q none-does (w ∷ l) = rw (none-does w) (find-never q none-does l)
-
-pub sought-never : (ws : List ℕ) (q : Packet → Bool) → ((w : ℕ) → q (unpacked w) ≡ false) → Nothing ≡ sought q (packets ws)
-unfolding sought found-at packets
-sought-never ws q none-does = rw (find-never q none-does (row ws))
-
-pub counted : (ws : List ℕ) (n : ℕ) → n ≡ length (row ws) → n ≡ length (packets ws)
-unfolding packets
-counted ws n e = e ∙ sym (length-map (row ws) unpacked)
-
-pub joined : (ws out : List ℕ) (p : Packet) (x : ℕ) → row out ≡ push (length ws - 1) (row ws) x → unpacked x ≡ p → packets out ≡ push (length ws - 1) (packets ws) p
-unfolding packets
-joined ws out p x a b = ap (map unpacked) a ∙ map-push unpacked _ (row ws) x ∙ rw b
-
-pub left : (ws out : List ℕ) (i : ℕ) → row out ≡ without i (row ws) → packets out ≡ without i (packets ws)
-unfolding packets
-left ws out i a = ap (map unpacked) a ∙ map-without unpacked i (row ws)

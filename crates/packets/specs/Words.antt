@@ -1,5 +1,5 @@
 -- A packet as an item of a row: the peer is the receiver, the owner the sender, the kind as in a frame. Of a GRANT the flags say which.
-use Rattle.lists.specs.Basics.{cond, List, map, ℕ, _%_, eqb}
+use Rattle.lists.specs.Basics.{Bool, true, false, cond, List, map, ℕ, _%_, eqb}
 use Rattle.protocol.specs.{declared.Content.Content, declared.Content.the-variants.{Ask, GrantOld, GrantReceived, GrantNew, Data, Note, Ack}, declared.Packet.Packet}
 use Rattle.item.specs.{declared.Item.Item, Item.item-of}
 use Rattle.words.specs.Rows.{row}
@@ -15,6 +15,11 @@ carried k f t v h =
     (cond (eqb k 2) (granted f t)
     (cond (eqb k 3) (Data v h)
     (cond (eqb k 4) (Note t) Ack)))
+
+-- what holds of both holds of either
+pub pick : (P : Content → Type 0) (b : Bool) {x y : Content} → P x → P y → P (cond b x y)
+pick P true p q = p
+pick P false p q = q
 
 unfoldable pub content-of : Item → Content
 content-of x = carried (x .kind) (x .flags) (x .tn) (x .value) (x .hops)

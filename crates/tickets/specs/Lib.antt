@@ -4,5 +4,4 @@ pub mod Table
 pub mod EntryLaws
 pub mod Fits
 pub mod Holes
-pub mod Loops
-pub mod Changes
+pub mod Enter

@@ -25,7 +25,7 @@ returns-3 : tie.Need-returns-3 Inv-loop μ-loop
 returns-3 c =
     let h = c .before .before in
     let l = h .before .before .before .loop in
-    sought-at _ _ _ (λ w. by-name _ _ _ _ (omega arith) (omega arith) (search needs) w) _ (seek-hit _ _ _ (l .inv .1) (omega arith) (sym (h .has-name .ensures) ∙ c .before .if3 .taken)) _ (c .unpack .ensures ∙ ap unpacked (row-at _ _ (omega arith))) (omega arith)
+    sought-at _ _ _ (λ w. by-name _ _ _ _ w (omega arith) (omega arith) (search needs)) _ (seek-hit _ _ _ (l .inv .1) (omega arith) (sym (h .has-name .ensures) ∙ c .before .if3 .taken)) _ (c .unpack .ensures ∙ ap unpacked (row-at _ _ (omega arith))) (omega arith)
 
 loop-again : tie.Need-loop-again Inv-loop μ-loop
 loop-again c =
@@ -36,7 +36,7 @@ loop-again c =
 returns-4 : tie.Need-returns-4 Inv-loop μ-loop
 returns-4 c =
     let l = c .before .loop in
-    sought-none _ _ _ (λ w. by-name _ _ _ _ (omega arith) (omega arith) (search needs) w) _ (seek-end _ _ _ (l .inv .1) (omega arith)) (omega arith)
+    sought-none _ _ _ (λ w. by-name _ _ _ _ w (omega arith) (omega arith) (search needs)) _ (seek-end _ _ _ (l .inv .1) (omega arith)) (omega arith)
 
 pub find-spec : {M : Type 1} → statement M
 find-spec =

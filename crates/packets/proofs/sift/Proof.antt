@@ -1,24 +1,26 @@
 -- `packets::sift` meets its contract: i words are read, m of them are written back.
-use Rattle.lists.specs.Basics.{_≡_, refl, sym, _∙_, _-_, _≤_, _<_, arith, needs, length, length-set}
+use Rattle.lists.specs.Basics.{map, _≡_, refl, sym, _∙_, _-_, _≤_, _<_, arith, needs, length, length-set}
 use Rattle.lists.specs.Lists.{keep}
-use Rattle.words.specs.{Rows.row, Sift.{sifted, sift-length, sift-keep, sift-skip, sift-end}}
+use Rattle.words.specs.{Rows.row, Sift.{sifted, sift-start, sift-length, sift-keep, sift-skip, sift-end, map-same}}
 use Rattle.head.specs.Head.{job-of}
-use Rattle.packets.specs.{Words.{unpacked, packets}, Stays.{stays, keep-none, keep-start, keep-end}}
+use Rattle.item.specs.Held.{held-none}
+use Rattle.packets.specs.{Words.{unpacked, packets}, Stays.stays}
 use Rattle.packets.proofs.sift.Statement.{statement}
 use Rattle.packets.proofs.sift.Tie as tie
 
 abbrev Inv-loop : tie.InvT-loop
 Inv-loop crash ws₀ h p n i₀ m₀ ws i m =
-    (m ≤ i) × (i ≤ n) × (n < length ws) × (length ws ≡ length ws₀) × (n ≡ length (row ws)) × (sifted unpacked (stays crash (job-of h) p) (λ x. x) ws i m ≡ keep (stays crash (job-of h) p) (packets ws₀))
+    (m ≤ i) × (i ≤ n) × (n < length ws) × (length ws ≡ length ws₀) × (n ≡ length (row ws)) × (sifted unpacked (stays crash (job-of h) p) (λ x. x) ws i m ≡ keep (stays crash (job-of h) p) (map unpacked (row ws₀)))
 
 abbrev μ-loop : tie.MeasureT-loop
 μ-loop crash ws₀ h p n i₀ m₀ ws i m = n - i
 
 returns : tie.Need-returns Inv-loop μ-loop
-returns c = keep-none _ _ (omega arith)
+unfolding packets
+returns c = held-none unpacked _ (stays _ _ _) (λ x. x) (omega arith) ∙ map-same _
 
 loop-holds : tie.Need-loop-holds Inv-loop μ-loop
-loop-holds c = (search needs, search needs, omega arith, refl, c .before .count .ensures .0, keep-start _ _)
+loop-holds c = (search needs, search needs, omega arith, refl, c .before .count .ensures .0, sift-start unpacked (stays _ _ _) (λ x. x) _ ∙ map-same _)
 
 loop-again : tie.Need-loop-again Inv-loop μ-loop
 loop-again c =
@@ -39,9 +41,10 @@ loop-again-2 c =
     (search needs, search needs, l .inv .2, l .inv .3, l .inv .4, sym (sift-skip unpacked (stays _ _ _) (λ x. x) (l .ws) (l .i) (l .m) (omega arith) (sym (t .stays .ensures) ∙ c .if2 .left)) ∙ l .inv .5)
 
 returns-2 : tie.Need-returns-2 Inv-loop μ-loop
+unfolding packets
 returns-2 c =
     let l = c .before .loop in
-    keep-end _ _ _ (sift-end unpacked (stays _ _ _) (λ x. x) (l .ws) (l .i) (l .m) _ (omega arith) (l .inv .4) (omega arith) (omega arith) ∙ l .inv .5)
+    sift-end unpacked (stays _ _ _) (λ x. x) (l .ws) (l .i) (l .m) _ (omega arith) (l .inv .4) (omega arith) (omega arith) ∙ l .inv .5
 
 pub sift-spec : {M : Type 1} → statement M
 sift-spec =

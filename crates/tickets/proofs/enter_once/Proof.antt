@@ -1,5 +1,5 @@
 use Rattle.lists.specs.Basics.{arith, needs}
-use Rattle.tickets.specs.Changes.{enter-double, enter-full, enter-room}
+use Rattle.tickets.specs.Enter.{enter-double, enter-full, enter-room}
 use Rattle.tickets.proofs.enter_once.Statement.{statement}
 use Rattle.tickets.proofs.enter_once.Tie as tie
 

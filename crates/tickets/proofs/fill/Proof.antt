@@ -1,11 +1,12 @@
-use Rattle.lists.specs.Basics.{arith, _%_, _≡_, _∙_, ap, needs}
-use Rattle.tickets.specs.{Table.entry-of, EntryLaws.fitted-fill, Changes.{changed-there, changed-none}}
-use Rattle.protocol.specs.Tickets.{fill, filled}
+use Rattle.lists.specs.Basics.{arith, _%_, _≡_, _∙_, ap, map, needs}
+use Rattle.tickets.specs.{Table.{entry-of, entries}, EntryLaws.{by-name, fitted-fill}}
+use Rattle.protocol.specs.Tickets.{for-message, fill, filled}
+use Rattle.words.specs.Mapped.{change-at, change-no}
 use Rattle.tickets.proofs.fill.Statement.{statement}
 use Rattle.tickets.proofs.fill.Tie as tie
 
 returns : tie.Need-returns
-unfolding fill filled
+unfolding fill filled entries
 returns c =
     let w = c .before .before in
     let p = w .before in
@@ -15,11 +16,12 @@ returns c =
     let s = k .before .before in
     let a = s .before .before .before .args in
     let e : u .unpack .result ≡ entry-of _ = u .unpack .ensures ∙ ap entry-of (r .read .ensures) in
-    changed-there _ _ (search needs) _ _ (s .seek .ensures) (fill (a .value) (a .hops % 8)) _ _ (omega arith) (w .write .ensures .items) (p .pack .ensures ∙ fitted-fill (a .value) (a .hops) _ _ e)
+    ap (map entry-of) (w .write .ensures .items)
+    ∙ change-at entry-of _ (for-message _ _) (by-name _ _ (search needs)) _ _ (s .seek .ensures) (fill (a .value) (a .hops % 8)) _ (omega arith) (p .pack .ensures ∙ fitted-fill (a .value) (a .hops) _ _ e)
 
 returns-2 : tie.Need-returns-2
-unfolding filled
-returns-2 c = changed-none _ _ (search needs) _ _ (c .before .before .before .seek .ensures) _ (omega arith)
+unfolding filled entries
+returns-2 c = change-no entry-of _ (for-message _ _) (by-name _ _ (search needs)) _ _ (c .before .before .before .seek .ensures) _ (omega arith)
 
 pub fill-spec : {M : Type 1} → statement M
 fill-spec =

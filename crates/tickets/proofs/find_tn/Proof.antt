@@ -1,5 +1,6 @@
-use Rattle.lists.specs.Basics.{drop, arith, _-_, _≤_, some, _≡_, refl, sym, ap, _∙_, needs}
-use Rattle.tickets.specs.{Table.{entries, found-entry}, Loops.{first-here, first-later, first-none}}
+use Rattle.lists.specs.Basics.{drop, arith, _-_, _≤_, some, _≡_, refl, sym, ap, _∙_, eq-eqb, ne-eqb, needs}
+use Rattle.item.specs.Held.{held-next, held-end}
+use Rattle.tickets.specs.Table.{entry-of, as-entry, entries, found-entry}
 use Rattle.protocol.specs.Tickets.{has-tn}
 use Rattle.lists.specs.Lists.{find}
 use Rattle.tickets.proofs.find_tn.Statement.{statement}
@@ -15,19 +16,22 @@ loop-holds : tie.Need-loop-holds Inv-loop μ-loop
 loop-holds c = (search needs, refl)
 
 returns : tie.Need-returns Inv-loop μ-loop
+unfolding entries entry-of as-entry find has-tn found-entry
 returns c =
     let t = c .before .before in
     let l = t .before .before .before .loop in
-    unfold found-entry in ap some (c .unpack .ensures) ∙ sym (l .inv .1 ∙ first-here _ (l .i) _ (omega arith) (sym (t .tn .ensures) ∙ c .before .if1 .taken))
+    ap some (c .unpack .ensures) ∙ sym (l .inv .1 ∙ ap (find _) (held-next entry-of _ (l .i) (omega arith)) ∙ rw (eq-eqb _ _ (sym (t .tn .ensures) ∙ c .before .if1 .taken)))
 
 loop-again : tie.Need-loop-again Inv-loop μ-loop
+unfolding entries entry-of as-entry find has-tn
 loop-again c =
     let t = c .before in
     let l = t .before .before .before .loop in
-    (search needs, l .inv .1 ∙ first-later _ (l .i) _ (omega arith) (λ q. c .if1 .left (t .tn .ensures ∙ q)))
+    (search needs, l .inv .1 ∙ ap (find _) (held-next entry-of _ (l .i) (omega arith)) ∙ rw (ne-eqb _ _ (λ q. c .if1 .left (t .tn .ensures ∙ q))))
 
 returns-2 : tie.Need-returns-2 Inv-loop μ-loop
-returns-2 c = let l = c .before .loop in unfold found-entry in sym (l .inv .1 ∙ first-none _ (l .i) _ (omega arith))
+unfolding entries find found-entry
+returns-2 c = let l = c .before .loop in sym (l .inv .1 ∙ ap (find _) (held-end entry-of _ (l .i) (omega arith)))
 
 pub find-tn-spec : {M : Type 1} → statement M
 find-tn-spec =

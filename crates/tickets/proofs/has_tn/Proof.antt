@@ -1,5 +1,6 @@
-use Rattle.lists.specs.Basics.{drop, arith, _-_, _≤_, _≡_, refl, sym, _∙_, needs}
-use Rattle.tickets.specs.{Table.entries, Loops.{has-here, has-later, has-none}}
+use Rattle.lists.specs.Basics.{drop, arith, _-_, _≤_, _≡_, refl, sym, ap, _∙_, eq-eqb, ne-eqb, needs}
+use Rattle.item.specs.Held.{held-next, held-miss, held-end}
+use Rattle.tickets.specs.Table.{entry-of, as-entry, entries}
 use Rattle.protocol.specs.Tickets.{has-tn}
 use Rattle.lists.specs.Lists.{anyb}
 use Rattle.tickets.proofs.has_tn.Statement.{statement}
@@ -15,19 +16,22 @@ loop-holds : tie.Need-loop-holds Inv-loop μ-loop
 loop-holds c = (search needs, refl)
 
 returns : tie.Need-returns Inv-loop μ-loop
+unfolding entries entry-of as-entry anyb has-tn
 returns c =
     let t = c .before in
     let l = t .before .before .before .loop in
-    sym (l .inv .1 ∙ has-here _ (l .i) _ (omega arith) (sym (t .tn .ensures) ∙ c .if1 .taken))
+    sym (l .inv .1 ∙ ap (anyb _) (held-next entry-of _ (l .i) (omega arith)) ∙ rw (eq-eqb _ _ (sym (t .tn .ensures) ∙ c .if1 .taken)))
 
 loop-again : tie.Need-loop-again Inv-loop μ-loop
+unfolding entries entry-of as-entry has-tn
 loop-again c =
     let t = c .before in
     let l = t .before .before .before .loop in
-    (search needs, l .inv .1 ∙ has-later _ (l .i) _ (omega arith) (λ q. c .if1 .left (t .tn .ensures ∙ q)))
+    (search needs, l .inv .1 ∙ held-miss entry-of _ (l .i) (has-tn _) (omega arith) (ne-eqb _ _ (λ q. c .if1 .left (t .tn .ensures ∙ q))))
 
 returns-2 : tie.Need-returns-2 Inv-loop μ-loop
-returns-2 c = let l = c .before .loop in sym (l .inv .1 ∙ has-none _ (l .i) _ (omega arith))
+unfolding entries anyb
+returns-2 c = let l = c .before .loop in sym (l .inv .1 ∙ ap (anyb _) (held-end entry-of _ (l .i) (omega arith)))
 
 pub has-tn-spec : {M : Type 1} → statement M
 has-tn-spec =

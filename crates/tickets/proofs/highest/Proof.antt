@@ -1,5 +1,6 @@
-use Rattle.lists.specs.Basics.{drop, arith, _-_, _≤_, _≡_, refl, sym, _∙_, needs}
-use Rattle.tickets.specs.{Table.entries, Loops.{highest-more, highest-same, highest-end}}
+use Rattle.lists.specs.Basics.{drop, arith, _-_, _≤_, _≡_, refl, sym, ap, _∙_, needs}
+use Rattle.item.specs.Held.{held-end}
+use Rattle.tickets.specs.{Table.{entry-of, entries}, Holes.highest-next}
 use Rattle.protocol.specs.Tickets.{highest}
 use Rattle.tickets.proofs.highest.Statement.{statement}
 use Rattle.tickets.proofs.highest.Tie as tie
@@ -17,16 +18,17 @@ loop-again : tie.Need-loop-again Inv-loop μ-loop
 loop-again c =
     let t = c .before in
     let l = t .before .before .before .loop in
-    (search needs, l .inv .1 ∙ highest-more _ (l .i) (l .h) _ (omega arith) (t .tn .ensures) (c .if1 .taken))
+    (search needs, l .inv .1 ∙ highest-next _ (l .i) (l .h) _ _ (omega arith) (t .tn .ensures) (omega arith))
 
 loop-again-2 : tie.Need-loop-again-2 Inv-loop μ-loop
 loop-again-2 c =
     let t = c .before in
     let l = t .before .before .before .loop in
-    (search needs, l .inv .1 ∙ highest-same _ (l .i) (l .h) _ (omega arith) (t .tn .ensures) (c .if1 .left))
+    (search needs, l .inv .1 ∙ highest-next _ (l .i) (l .h) _ _ (omega arith) (t .tn .ensures) (omega arith))
 
 returns : tie.Need-returns Inv-loop μ-loop
-returns c = let l = c .before .loop in sym (l .inv .1 ∙ highest-end _ (l .i) (l .h) (omega arith))
+unfolding entries highest
+returns c = let l = c .before .loop in sym (l .inv .1 ∙ ap (highest _) (held-end entry-of _ (l .i) (omega arith)))
 
 pub highest-spec : {M : Type 1} → statement M
 highest-spec =

@@ -1,5 +1,6 @@
 use Rattle.lists.specs.Basics.{sym, ap, _∙_, _+_, needs}
-use Rattle.tickets.specs.{Table.found-hole, Holes.{next-hole, next-highest}}
+use Rattle.protocol.specs.Tickets.{next-tn, hole-or}
+use Rattle.tickets.specs.Table.{found-hole}
 use Rattle.tickets.proofs.next_tn.Statement.{statement}
 use Rattle.tickets.proofs.next_tn.Tie as tie
 
@@ -25,12 +26,12 @@ add-result : tie.Need-add-result
 add-result c = search needs
 
 returns : tie.Need-returns
-unfolding found-hole
-returns c = next-hole _ _ _ (sym (ap found-hole (c .before .n .given .1)) ∙ c .before .before .before .lowest-hole .ensures)
+unfolding found-hole next-tn hole-or
+returns c = rw (sym (sym (ap found-hole (c .before .n .given .1)) ∙ c .before .before .before .lowest-hole .ensures))
 
 returns-2 : tie.Need-returns-2
-unfolding found-hole
-returns-2 c = ap (λ h. h + 1) (c .highest .ensures) ∙ next-highest _ _ _ (sym (ap found-hole (c .before .enum-told .given .1)) ∙ c .before .before .before .lowest-hole .ensures)
+unfolding found-hole next-tn hole-or
+returns-2 c = ap (λ h. h + 1) (c .highest .ensures) ∙ rw (sym (sym (ap found-hole (c .before .enum-told .given .1)) ∙ c .before .before .before .lowest-hole .ensures))
 
 pub next-tn-spec : {M : Type 1} → statement M
 next-tn-spec =

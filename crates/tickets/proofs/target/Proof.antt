@@ -1,5 +1,6 @@
 use Rattle.lists.specs.Basics.{sym, ap, _∙_, arith, needs}
-use Rattle.tickets.specs.{Table.found-hole, Holes.{hole-above, target-hole, target-highest}}
+use Rattle.protocol.specs.Restart.{below-hole}
+use Rattle.tickets.specs.{Table.found-hole, Holes.hole-above}
 use Rattle.tickets.proofs.target.Statement.{statement}
 use Rattle.tickets.proofs.target.Tie as tie
 
@@ -20,12 +21,12 @@ highest-requires : tie.Need-highest-requires
 highest-requires c κs = search needs
 
 returns : tie.Need-returns
-unfolding found-hole
-returns c = target-hole _ _ _ (sym (ap found-hole (c .before .n .given .1)) ∙ c .before .before .before .lowest-hole .ensures)
+unfolding found-hole below-hole
+returns c = rw (sym (sym (ap found-hole (c .before .n .given .1)) ∙ c .before .before .before .lowest-hole .ensures))
 
 returns-2 : tie.Need-returns-2
-unfolding found-hole
-returns-2 c = c .highest .ensures ∙ target-highest _ _ _ (sym (ap found-hole (c .before .enum-told .given .1)) ∙ c .before .before .before .lowest-hole .ensures)
+unfolding found-hole below-hole
+returns-2 c = c .highest .ensures ∙ rw (sym (sym (ap found-hole (c .before .enum-told .given .1)) ∙ c .before .before .before .lowest-hole .ensures))
 
 pub target-spec : {M : Type 1} → statement M
 target-spec =
