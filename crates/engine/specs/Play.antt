@@ -13,14 +13,6 @@ settles (Refused n) = false
 unfoldable pub settle-after : Outcome → Outcome
 settle-after o = record { state = cond (settles (o .answer)) (settle (o .state)) (o .state); answer = o .answer }
 
-pub settle-yes : (o : Outcome) → settles (o .answer) ≡ true → settle-after o ≡ record { state = settle (o .state); answer = o .answer }
-unfolding settle-after
-settle-yes o e = rw e
-
-pub settle-no : (o : Outcome) → settles (o .answer) ≡ false → settle-after o ≡ o
-unfolding settle-after
-settle-no o e = rw e
-
 -- a refusal is left alone
 pub judged-settles : (s : State) (n : ℕ) (l : List Bool) (x o : Outcome) → x ≡ settle-after o → judged s (asks n l x) ≡ settle-after (judged s (asks n l o))
 unfolding judged asks settle-after settles
