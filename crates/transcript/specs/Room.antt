@@ -4,7 +4,7 @@ use Rattle.lists.specs.Tests.{either}
 use Rattle.protocol.specs.{Frames.Line, Lines.{newline, lines}, Step.{step, answers}}
 use Rattle.transcript.specs.{Reading.{Reading, answer-room, within, beginning, printed, read-byte, byte-output, read-all, output, is-empty, takes, finishes}}
 use Rattle.transcript.specs.{Pieces.{read-cons, output-nil, output-cons, continued, lines-continued, kept-empty, ends-state, ends-output, goes-on, goes-on-silent}}
-use Rattle.transcript.specs.{LineWise.{takes-nil, takes-cons}, Printed.printed-fits, View.{enough, whole-output}}
+use Rattle.transcript.specs.{Printed.printed-fits, View.{enough, whole-output}}
 use Rattle.protocol.specs.Parts as parts
 
 -- a line that was begun is a line
@@ -25,8 +25,9 @@ pub record Enough (room : ℕ) (r : Reading) (i : List ℕ) : Type 0 where
 
 -- a byte more in front
 enough-cons : (room : ℕ) (r : Reading) (b : ℕ) (i : List ℕ) → answer-room ≤ room → Enough (room - length (byte-output r b)) (read-byte r b) i → Enough room r (b ∷ i)
+unfolding takes
 enough-cons room r b i h e = record {
-  all = takes-cons room r b i h ∙ ap suc (e .all);
+  all = rw (le-leb answer-room room h) (ap suc (e .all));
   end =
       let f : room - length (byte-output r b) - length (output (read-byte r b) i) ≡ room - length (output r (b ∷ i)) = rw (output-cons, length-append) (omega arith) in
       ap (λ n. finishes n (read-all r (b ∷ i))) (sym f) ∙ rw read-cons (e .end);
@@ -41,8 +42,8 @@ enough-end room s l h =
     (λ e. rw (e, output-nil) (let g = rw e at h in le-leb answer-room (room - 0) (omega arith))))
 
 enough-lines : (room : ℕ) (s : parts.State) (l : Line) (i : List ℕ) → answer-room * length (continued l i) ≤ room → Enough room (within s l) i
-unfolding continued
-enough-lines room s l [] h = record { all = takes-nil room (within s l); end = enough-end room s l h }
+unfolding continued takes
+enough-lines room s l [] h = record { all = refl; end = enough-end room s l h }
 enough-lines room s l (b ∷ i) h =
     either (eqb b newline)
     (λ e.

@@ -36,7 +36,13 @@ pub fed : (q r : Reading) → q ≡ r → (input room s : List ℕ) (len : ℕ) 
 unfolding reading
 fed q r e input room s len line t w out inv f =
     subst (λ r. Feeding r input room (record { len = len; taken = t; written = w }) s line out) e
-    (record { taken = f; reader = inv .reader; written = inv .written; bytes = inv .bytes; demand = unfold within in fed-demand q (within (view s) (take len line)) (take t input) (inv .reader) })
+    (record {
+      taken = f;
+      reader = sym (inv .reads .reader);
+      written = rw (inv .reads .prints) (inv .written);
+      bytes = rw (inv .reads .prints) (inv .bytes);
+      demand = unfold within in fed-demand q (within (view s) (take len line)) (take t input) (sym (inv .reads .reader));
+    })
 
 pub ended-demand : (r : Reading) (room : ℕ) (s : parts.State) (ok : Bool) → ok ≡ finishes room r → s ≡ end-state room r → ok ≡ true → (before : List ℕ) → r ≡ read-all beginning before → After (lines before) s
 unfolding finishes
