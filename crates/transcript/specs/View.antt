@@ -3,7 +3,7 @@ use Rattle.lists.specs.Basics.{Bool, true, cond, _&&_, List, [], _++_, _≡_, s
 use Rattle.store.specs.{Places.STORE, View.view}
 use Rattle.opening.specs.Zeros.{zeros-start}
 use Rattle.transcript.specs.{Reading.{Reading, LINE, answer-room, within, beginning, read-all, output, last-output, takes, finishes, end-state}, Pieces.read-append}
-use Rattle.transcript.specs.{Feeding.Fed-so-far, Demand.{After, after, finished, finished-state, ended-state, enough-end}, declared.Fed.Fed, declared.Ended.Ended}
+use Rattle.transcript.specs.{Feeding.Fed-so-far, Demand.{After, after, finished, finished-state}, declared.Fed.Fed, declared.Ended.Ended}
 use Rattle.protocol.specs.{Lines.lines, Step.answers}
 use Rattle.protocol.specs.Parts as parts
 
@@ -43,11 +43,6 @@ fed q r e input room s len line t w out inv f =
       bytes = rw (inv .reads .prints) (inv .bytes);
       demand = unfold within in fed-demand q (within (view s) (take len line)) (take t input) (sym (inv .reads .reader));
     })
-
-pub ended-demand : (r : Reading) (room : ℕ) (s : parts.State) (ok : Bool) → ok ≡ finishes room r → s ≡ end-state room r → ok ≡ true → (before : List ℕ) → r ≡ read-all beginning before → After (lines before) s
-unfolding finishes
-ended-demand r room s ok f e d before g =
-    after (lines before) s (e ∙ enough-end room r (sym f ∙ d) ∙ ap (end-state answer-room) g ∙ ended-state answer-room (omega arith) before)
 
 -- what is printed at the end, where there is room for it; else nothing
 unfoldable pub end-output : ℕ → Reading → List ℕ
