@@ -9,22 +9,24 @@ use Rattle.protocol.specs.Parts as parts
 -- r was fed the first t bytes of the input and is `now`; it wrote w bytes, its answers, to a buffer that held out₀
 pub record Fed-so-far (r : Reading) (input out₀ : List ℕ) (now : Reading) (t w : ℕ) (out : List ℕ) : Type 0 where
   pub answers : List ℕ
-  pub reads : Reads (length out₀) r t input now answers
+  pub reads : Reads (length out₀) r t input (length out₀ - w) now answers
   pub within-input : t ≤ length input
   pub within-room : w ≤ length out₀
   pub written : w ≡ length answers
   pub bytes : out ≡ answers ++ drop w out₀
 
 pub nothing-yet : (r : Reading) (input out₀ : List ℕ) → Fed-so-far r input out₀ r 0 0 out₀
-nothing-yet r input out₀ = record { answers = []; reads = reads-none (length out₀) r input; within-input = omega arith; within-room = omega arith; written = refl; bytes = refl }
+nothing-yet r input out₀ =
+    let z : length out₀ - 0 ≡ length out₀ = omega arith in
+    record { answers = []; reads = rw z (reads-none (length out₀) r input); within-input = omega arith; within-room = omega arith; written = refl; bytes = refl }
 
 module _ (r : Reading) (input out₀ : List ℕ) (now : Reading) (t w : ℕ) (out : List ℕ) (inv : Fed-so-far r input out₀ now t w out) where
   -- m bytes more, which print o
-  fed-more : (m : ℕ) (next : Reading) (o : List ℕ) → Reads (length out₀ - w) now m (drop t input) next o → t + m ≤ length input → (v : ℕ) → v ≡ w + length o → v ≤ length out₀
+  fed-more : (m : ℕ) (next : Reading) (o : List ℕ) → (v : ℕ) → Reads (length out₀ - w) now m (drop t input) (length out₀ - v) next o → t + m ≤ length input → v ≡ w + length o → v ≤ length out₀
       → Fed-so-far r input out₀ next (t + m) v (take w out ++ o ++ drop v out)
-  fed-more m next o more there v is-v room = record {
+  fed-more m next o v more there is-v room = record {
     answers = inv .answers ++ o;
-    reads = reads-more (inv .reads) (rw (inv .written) at more);
+    reads = reads-more (inv .reads) more;
     within-input = there;
     within-room = room;
     written = rw length-append (omega arith);
@@ -37,7 +39,7 @@ module _ (r : Reading) (input out₀ : List ℕ) (now : Reading) (t w : ℕ) (ou
   at-end e = sym (inv .reads .taken ∙ rw (e, drop-length) (omega arith))
 
   pub no-room : length out₀ - w < answer-room → t ≡ takes (length out₀) r input
-  no-room h = sym (inv .reads .taken ∙ rw (takes-none (length out₀ - length (inv .answers)) now (drop t input) (omega (arith, inv .written))) (omega arith))
+  no-room h = sym (inv .reads .taken ∙ rw (takes-none (length out₀ - w) now (drop t input) h) (omega arith))
 
 -- what is kept of a line, in an array of just that room
 pub kept-part : (room : ℕ) (l : Line) (t n : ℕ) (input : List ℕ) (kept : Line) → room ≡ LINE → n ≡ line-end (drop t input) → kept ≡ take room (l ++ take (t + n - t) (drop t input))
@@ -55,7 +57,7 @@ module _ (r : Reading) (input out₀ : List ℕ) (s : parts.State) (l : Line) (t
       let e : end + 1 ≡ t + suc (line-end (drop t input)) = omega arith in
       let f : o ≡ step s (l ++ line-part (drop t input)) = is-step ∙ ap (step s) is-kept ∙ kept-step s (l ++ line-part (drop t input)) in
       rw (is-long, is-put, e, f)
-      (fed-more r input out₀ (within s l) t w out inv _ _ _ (reads-line s (length out₀ - w) room l (drop t input) (omega (arith, length-drop t input))) (omega arith) _ refl
+      (fed-more r input out₀ (within s l) t w out inv _ _ _ _ (reads-line s (length out₀ - w) room l (drop t input) (omega (arith, length-drop t input)) _ (omega arith)) (omega arith) refl
       (omega (arith, printed-fits (step s (l ++ line-part (drop t input)) .answer))))
 
   -- the input ends first
@@ -64,4 +66,4 @@ module _ (r : Reading) (input out₀ : List ℕ) (s : parts.State) (l : Line) (t
   fed-stop h =
       let same : take w out ++ [] ++ drop w out ≡ out = rw append-nil (take-append-drop w out) in
       rw (is-kept, take-take line-room line-room (l ++ line-part (drop t input)) (omega arith), is-end)
-      (rw same at (fed-more r input out₀ (within s l) t w out inv _ _ _ (reads-part s (length out₀ - w) room l (drop t input)) (omega arith) w (omega arith) (inv .within-room)))
+      (rw same at (fed-more r input out₀ (within s l) t w out inv _ _ _ w (reads-part s (length out₀ - w) room l (drop t input)) (omega arith) (omega arith) (inv .within-room)))

@@ -37,39 +37,43 @@ module _ (i : List ℕ) (k : ℕ) (inv : line-end i ≡ k + line-end (drop k i))
   unfolding line-end place
   end-nowhere h = let f = rw (drop-of-length-le i {i = k} h) at inv in omega arith
 
--- ---- r reads the first m bytes of i, which print o, and is `next`; with so much room it takes them, and goes on with the room left
-pub record Reads (room : ℕ) (r : Reading) (m : ℕ) (i : List ℕ) (next : Reading) (o : List ℕ) : Type 0 where
+-- ---- with so much room r takes the first m bytes of i, which print o, and goes on as `next`, with the room that is left
+pub record Reads (room : ℕ) (r : Reading) (m : ℕ) (i : List ℕ) (left : ℕ) (next : Reading) (o : List ℕ) : Type 0 where
   pub reader : read-all r (take m i) ≡ next
   pub prints : output r (take m i) ≡ o
-  pub taken : takes room r i ≡ m + takes (room - length o) next (drop m i)
+  pub leaves : left ≡ room - length o
+  pub taken : takes room r i ≡ m + takes left next (drop m i)
 
-pub reads-none : (room : ℕ) (r : Reading) (i : List ℕ) → Reads room r 0 i r []
+pub reads-none : (room : ℕ) (r : Reading) (i : List ℕ) → Reads room r 0 i room r []
 unfolding read-all output
-reads-none room r i = let z : room - 0 ≡ room = omega arith in record { reader = refl; prints = refl; taken = rw z (omega arith) }
+reads-none room r i = record { reader = refl; prints = refl; leaves = omega arith; taken = omega arith }
 
-pub reads-more : {room : ℕ} {r q next : Reading} {m n : ℕ} {i o p : List ℕ} → Reads room r m i q o → Reads (room - length o) q n (drop m i) next p → Reads room r (m + n) i next (o ++ p)
-reads-more {room} {m = m} {n} {i} {o} {p} a b =
-    let left : room - length (o ++ p) ≡ room - length o - length p = rw length-append (omega arith) in
-    record {
-      reader = rw (take-add m n i, read-append, a .reader) (b .reader);
-      prints = rw (take-add m n i, output-append, a .prints, a .reader, b .prints);
-      taken = a .taken ∙ rw (b .taken, left, drop-drop) (omega arith);
-    }
+pub reads-more : {room mid left : ℕ} {r q next : Reading} {m n : ℕ} {i o p : List ℕ} → Reads room r m i mid q o → Reads mid q n (drop m i) left next p → Reads room r (m + n) i left next (o ++ p)
+reads-more {m = m} {n} {i} a b = record {
+  reader = rw (take-add m n i, read-append, a .reader) (b .reader);
+  prints = rw (take-add m n i, output-append, a .prints, a .reader, b .prints);
+  leaves = rw length-append (omega arith);
+  taken = a .taken ∙ rw (b .taken, drop-drop) (omega arith);
+}
 
 -- a byte in front of m others
-pub reads-byte : {room left : ℕ} {r q next : Reading} {b m : ℕ} {i o p : List ℕ} → answer-room ≤ room → read-byte r b ≡ q → byte-output r b ≡ o → left ≡ room - length o → Reads left q m i next p
-    → Reads room r (suc m) (b ∷ i) next (o ++ p)
+pub reads-byte : {room mid left : ℕ} {r q next : Reading} {b m : ℕ} {i o p : List ℕ} → answer-room ≤ room → read-byte r b ≡ q → byte-output r b ≡ o → mid ≡ room - length o
+    → Reads mid q m i left next p → Reads room r (suc m) (b ∷ i) left next (o ++ p)
 unfolding read-all output takes
-reads-byte {room} {left} {o = o} {p} h is-q is-o rest a =
-    let e : room - length (o ++ p) ≡ left - length p = rw length-append (omega arith) in
-    record { reader = cc (a .reader); prints = cc (a .prints); taken = rw (le-leb answer-room room h, is-q, is-o, ← rest, e) (omega (arith, a .taken)) }
+reads-byte {room} h is-q is-o rest a = record {
+  reader = cc (a .reader);
+  prints = cc (a .prints);
+  leaves = rw length-append (omega arith);
+  taken = rw (le-leb answer-room room h, is-q, is-o, ← rest) (omega (arith, a .taken));
+}
 
 module _ (s : parts.State) (room : ℕ) (h : answer-room ≤ room) where
-  reads-on : (l : Line) (b : ℕ) → eqb b newline ≡ false → {next : Reading} {m : ℕ} {i p : List ℕ} → Reads room (within s (l ++ (b ∷ []))) m i next p → Reads room (within s l) (suc m) (b ∷ i) next p
+  pub reads-on : (l : Line) (b : ℕ) → eqb b newline ≡ false → {left : ℕ} {next : Reading} {m : ℕ} {i p : List ℕ} → Reads room (within s (l ++ (b ∷ []))) m i left next p
+      → Reads room (within s l) (suc m) (b ∷ i) left next p
   reads-on l b e a = reads-byte h (goes-on s l b e) (goes-on-silent s l b e) (omega arith) a
 
   -- up to the next newline nothing is printed and the line grows
-  pub reads-part : (l : Line) (i : List ℕ) → Reads room (within s l) (line-end i) i (within s (l ++ line-part i)) []
+  pub reads-part : (l : Line) (i : List ℕ) → Reads room (within s l) (line-end i) i room (within s (l ++ line-part i)) []
   unfolding line-end place
   reads-part l [] = rw append-nil (reads-none room (within s l) [])
   reads-part l (b ∷ i) =
@@ -78,14 +82,15 @@ module _ (s : parts.State) (room : ℕ) (h : answer-room ≤ room) where
       (λ e. rw (e, ← append-assoc l (b ∷ []) (line-part i)) (reads-on l b e (reads-part (l ++ (b ∷ [])) i)))
 
   -- a newline that is there ends the line
-  pub reads-line : (l : Line) (i : List ℕ) → line-end i < length i
-      → Reads room (within s l) (suc (line-end i)) i (within (step s (l ++ line-part i) .state) []) (printed (step s (l ++ line-part i) .answer))
+  pub reads-line : (l : Line) (i : List ℕ) → line-end i < length i → (left : ℕ) → left ≡ room - length (printed (step s (l ++ line-part i) .answer))
+      → Reads room (within s l) (suc (line-end i)) i left (within (step s (l ++ line-part i) .state) []) (printed (step s (l ++ line-part i) .answer))
   unfolding line-end place
-  reads-line l [] there = absurd (omega arith)
-  reads-line l (b ∷ i) there =
+  reads-line l [] there left is-left = absurd (omega arith)
+  reads-line l (b ∷ i) there left is-left =
       either (eqb b newline)
-      (λ e. rw (e, append-nil) (rw append-nil at (reads-byte h (ends-state s l b e) (ends-output s l b e) refl (reads-none _ _ i))))
-      (λ e. let f = rw e at there in rw (e, ← append-assoc l (b ∷ []) (line-part i)) (reads-on l b e (reads-line (l ++ (b ∷ [])) i (omega arith))))
+      (λ e. let g = rw (e, append-nil) at is-left in rw (e, append-nil) (rw append-nil at (reads-byte h (ends-state s l b e) (ends-output s l b e) g (reads-none left _ i))))
+      (λ e. let f = rw e at there in let g = rw (e, ← append-assoc l (b ∷ []) (line-part i)) at is-left in
+      rw (e, ← append-assoc l (b ∷ []) (line-part i)) (reads-on l b e (reads-line (l ++ (b ∷ [])) i (omega arith) left g)))
 
 pub takes-none : (room : ℕ) (r : Reading) (i : List ℕ) → room < answer-room → takes room r i ≡ 0
 unfolding takes
