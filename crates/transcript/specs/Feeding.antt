@@ -22,11 +22,11 @@ nothing-yet r input out₀ =
 
 module _ (r : Reading) (input out₀ : List ℕ) (now : Reading) (t w : ℕ) (out : List ℕ) (inv : Fed-so-far r input out₀ now t w out) where
   -- m bytes more, which print o
-  fed-more : (m : ℕ) (next : Reading) (o : List ℕ) → (v : ℕ) → Reads (length out₀ - w) now m (drop t input) (length out₀ - v) next o → t + m ≤ length input → v ≡ w + length o → v ≤ length out₀
+  fed-more : (m left : ℕ) (next : Reading) (o : List ℕ) (v : ℕ) → Reads (length out₀ - w) now m (drop t input) left next o → t + m ≤ length input → v ≡ w + length o → v ≤ length out₀
       → Fed-so-far r input out₀ next (t + m) v (take w out ++ o ++ drop v out)
-  fed-more m next o v more there is-v room = record {
+  fed-more m left next o v more there is-v room = record {
     answers = inv .answers ++ o;
-    reads = reads-more (inv .reads) more;
+    reads = let e : left ≡ length out₀ - v = omega arith in reads-more (inv .reads) (rw e at more);
     within-input = there;
     within-room = room;
     written = rw length-append (omega arith);
@@ -57,7 +57,7 @@ module _ (r : Reading) (input out₀ : List ℕ) (s : parts.State) (l : Line) (t
       let e : end + 1 ≡ t + suc (line-end (drop t input)) = omega arith in
       let f : o ≡ step s (l ++ line-part (drop t input)) = is-step ∙ ap (step s) is-kept ∙ kept-step s (l ++ line-part (drop t input)) in
       rw (is-long, is-put, e, f)
-      (fed-more r input out₀ (within s l) t w out inv _ _ _ _ (reads-line s (length out₀ - w) room l (drop t input) (omega (arith, length-drop t input)) _ (omega arith)) (omega arith) refl
+      (fed-more r input out₀ (within s l) t w out inv _ _ _ _ _ (reads-line s (length out₀ - w) room l (drop t input) (omega (arith, length-drop t input))) (omega arith) refl
       (omega (arith, printed-fits (step s (l ++ line-part (drop t input)) .answer))))
 
   -- the input ends first
@@ -66,4 +66,4 @@ module _ (r : Reading) (input out₀ : List ℕ) (s : parts.State) (l : Line) (t
   fed-stop h =
       let same : take w out ++ [] ++ drop w out ≡ out = rw append-nil (take-append-drop w out) in
       rw (is-kept, take-take line-room line-room (l ++ line-part (drop t input)) (omega arith), is-end)
-      (rw same at (fed-more r input out₀ (within s l) t w out inv _ _ _ w (reads-part s (length out₀ - w) room l (drop t input)) (omega arith) (omega arith) (inv .within-room)))
+      (rw same at (fed-more r input out₀ (within s l) t w out inv _ _ _ _ w (reads-part s (length out₀ - w) room l (drop t input)) (omega arith) (omega arith) (inv .within-room)))

@@ -82,15 +82,14 @@ module _ (s : parts.State) (room : ℕ) (h : answer-room ≤ room) where
       (λ e. rw (e, ← append-assoc l (b ∷ []) (line-part i)) (reads-on l b e (reads-part (l ++ (b ∷ [])) i)))
 
   -- a newline that is there ends the line
-  pub reads-line : (l : Line) (i : List ℕ) → line-end i < length i → (left : ℕ) → left ≡ room - length (printed (step s (l ++ line-part i) .answer))
-      → Reads room (within s l) (suc (line-end i)) i left (within (step s (l ++ line-part i) .state) []) (printed (step s (l ++ line-part i) .answer))
+  pub reads-line : (l : Line) (i : List ℕ) → line-end i < length i
+      → let o = step s (l ++ line-part i) in Reads room (within s l) (suc (line-end i)) i (room - length (printed (o .answer))) (within (o .state) []) (printed (o .answer))
   unfolding line-end place
-  reads-line l [] there left is-left = absurd (omega arith)
-  reads-line l (b ∷ i) there left is-left =
+  reads-line l [] there = absurd (omega arith)
+  reads-line l (b ∷ i) there =
       either (eqb b newline)
-      (λ e. let g = rw (e, append-nil) at is-left in rw (e, append-nil) (rw append-nil at (reads-byte h (ends-state s l b e) (ends-output s l b e) g (reads-none left _ i))))
-      (λ e. let f = rw e at there in let g = rw (e, ← append-assoc l (b ∷ []) (line-part i)) at is-left in
-      rw (e, ← append-assoc l (b ∷ []) (line-part i)) (reads-on l b e (reads-line (l ++ (b ∷ [])) i (omega arith) left g)))
+      (λ e. rw (e, append-nil) (rw append-nil at (reads-byte h (ends-state s l b e) (ends-output s l b e) refl (reads-none _ _ i))))
+      (λ e. let f = rw e at there in rw (e, ← append-assoc l (b ∷ []) (line-part i)) (reads-on l b e (reads-line (l ++ (b ∷ [])) i (omega arith))))
 
 pub takes-none : (room : ℕ) (r : Reading) (i : List ℕ) → room < answer-room → takes room r i ≡ 0
 unfolding takes
