@@ -1,6 +1,6 @@
 -- Copying into an array: what stands there afterwards.
-use Rattle.lists.specs.Basics.{inl, inr, List, _++_, _≡_, refl, sym, ap, _∙_, ℕ, _+_, _-_, _≤_, _<_, min, add-one, arith, length, take, drop, set, getD, length-set, paste}
-use Rattle.lists.specs.Basics.{paste-zero, paste-suc, take-paste, take-append-add, length-take-le, take-all, take-at, drop-at, drop-drop}
+use Rattle.lists.specs.Basics.{inl, inr, List, _++_, _≡_, sym, ap, _∙_, ℕ, _+_, _-_, _≤_, _<_, min, add-one, arith, length, take, drop, set, getD, length-set, paste}
+use Rattle.lists.specs.Basics.{paste-suc, take-paste, take-append-add, length-take-le, take-all, take-at, drop-at, drop-drop}
 use Rattle.lists.specs.Tests.{lt?}
 
 module _ {A : Type 0} where
@@ -19,9 +19,6 @@ module _ {A : Type 0} where
   pub record Copied (d : List A) (at : ℕ) (s : List A) (i : ℕ) (out : List A) : Type 0 where
     pub long : length out ≡ length d
     pub same : out ≡ paste d at s i
-
-  pub copy-none : (d : List A) (at : ℕ) (s : List A) → Copied d at s 0 d
-  copy-none d at s = record { long = refl; same = paste-zero d at s }
 
   pub copy-one : (d : List A) (at : ℕ) (s : List A) (i : ℕ) (out : List A) (z : A) → Copied d at s i out → at + i < length d → i < length s → Copied d at s (i + 1) (set out (at + i) (getD s i z))
   copy-one d at s i out z c h g = record {

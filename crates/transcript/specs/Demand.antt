@@ -1,8 +1,8 @@
 -- The state that a reader holds: that of the lines that are finished, and, if it is quiet, demand 3 of it.
-use Rattle.lists.specs.Basics.{_≡_, refl, sym, ap, _∙_, subst, true, false, cond, List, [], _∷_, _++_, ℕ, _≤_, le-leb, eqb}
+use Rattle.lists.specs.Basics.{_≡_, refl, ap, _∙_, true, cond, List, [], _∷_, _++_, ℕ, eqb}
 use Rattle.lists.specs.Tests.{either}
 use Rattle.protocol.specs.{Frames.Line, Lines.{newline, lines}, Step.{Outcome, step, run}, Demand3.{Quiet, Agrees, Begins, state-after, history-after}, Recovery.Theorem.demand3}
-use Rattle.transcript.specs.{Reading.{Reading, answer-room, within, beginning, read-all, is-empty, finishes, end-state}}
+use Rattle.transcript.specs.{Reading.{Reading, within, beginning, read-all, is-empty, finishes, end-state}}
 use Rattle.transcript.specs.{Pieces.{continued, continued-nothing, continued-hit, continued-miss, kept-step, kept-empty, ends-state, goes-on}}
 use Rattle.protocol.specs.Parts as parts
 
@@ -39,23 +39,19 @@ pub finished-state : (i : List ℕ) → read-all beginning i .state ≡ state-af
 unfolding beginning finished state-after
 finished-state i = reads-ended parts.start [] i
 
--- ---- at the end
-module _ (room : ℕ) (h : answer-room ≤ room) where
-  ends-continued : (s : parts.State) (l : Line) (i : List ℕ) → end-state room (read-all (within s l) i) ≡ run s (continued l (lines i))
+-- ---- at the end, where there is room for it
+module _ (room : ℕ) where
+  ends-continued : (s : parts.State) (l : Line) (i : List ℕ) → finishes room (read-all (within s l) i) ≡ true → end-state room (read-all (within s l) i) ≡ run s (continued l (lines i))
   unfolding read-all run
-  ends-continued s l [] =
-      unfold end-state continued lines in
-      rw (kept-empty s l, le-leb answer-room room h)
-      (either (is-empty l) (λ e. rw e (unfold within in refl)) (λ e. rw e (unfold within in ap (λ (o : Outcome). o .state) (kept-step s l))))
-  ends-continued s l (b ∷ i) = either (eqb b newline)
-      (λ e. rw (ends-state s l b e, continued-hit l b i e) (ends-continued (step s l .state) [] i))
-      (λ e. rw (goes-on s l b e, continued-miss l b i e) (ends-continued s (l ++ (b ∷ [])) i))
+  ends-continued s l [] h =
+      unfold finishes end-state continued lines in
+      let g = rw (kept-empty s l) at h in
+      rw (kept-empty s l)
+      (either (is-empty l) (λ e. rw e (unfold within in refl)) (λ e. rw (e, rw e at g) (unfold within in ap (λ (o : Outcome). o .state) (kept-step s l))))
+  ends-continued s l (b ∷ i) h = either (eqb b newline)
+      (λ e. rw (ends-state s l b e, continued-hit l b i e) (ends-continued (step s l .state) [] i (rw (ends-state s l b e) at h)))
+      (λ e. rw (goes-on s l b e, continued-miss l b i e) (ends-continued s (l ++ (b ∷ [])) i (rw (goes-on s l b e) at h)))
 
-  pub ended-state : (i : List ℕ) → end-state room (read-all beginning i) ≡ state-after (lines i)
+  pub ended-state : (i : List ℕ) → finishes room (read-all beginning i) ≡ true → end-state room (read-all beginning i) ≡ state-after (lines i)
   unfolding beginning state-after
-  ended-state i = ends-continued parts.start [] i ∙ rw continued-nothing
-
--- where there is room for the end, it is as if there were just enough
-pub enough-end : (room : ℕ) (r : Reading) → finishes room r ≡ true → end-state room r ≡ end-state answer-room r
-unfolding finishes end-state
-enough-end room r h = either (is-empty (r .line)) (λ e. rw e) (λ e. let g = rw e at h in rw (e, g))
+  ended-state i h = ends-continued parts.start [] i h ∙ rw continued-nothing

@@ -5,7 +5,7 @@ use Rattle.lists.specs.Tests.{either}
 use Rattle.protocol.specs.{Lines.{newline, lines}}
 use Rattle.store.specs.View.{view}
 use Rattle.transcript.specs.{Reading.{Reading, LINE, line-room, answer-room, within, beginning, read-byte, byte-output, read-all, output, is-empty, last-output, takes, finishes, end-state}}
-use Rattle.transcript.specs.{Pieces.{kept-empty, reads-transcript}, Copies.{rest-stays, wrote-more}, Demand.{after, ended-state, enough-end}}
+use Rattle.transcript.specs.{Pieces.{kept-empty, reads-transcript}, Copies.{rest-stays, wrote-more}, Demand.{after, ended-state}}
 use Rattle.transcript.specs.{View.{reading, Feeding, end-output, Ending, enough, whole-output, Transcribed}, declared.Fed.Fed, declared.Ended.Ended}
 
 -- ---- what was taken lies within the input, what was written within the buffer
@@ -35,7 +35,7 @@ ending : (r : Reading) (room : List ℕ) (e : Ended) (s out : List ℕ) → e .o
 ending r room e s out ok state written bytes = record {
   ok = ok;
   state = state;
-  demand = λ d before g. after (lines before) (view s) (state ∙ enough-end (length room) r (sym ok ∙ d) ∙ ap (end-state answer-room) g ∙ ended-state answer-room (omega arith) before);
+  demand = λ d before g. after (lines before) (view s) (state ∙ rw g (ended-state (length room) before (rw g at (sym ok ∙ d))));
   written = written;
   bytes = bytes;
 }

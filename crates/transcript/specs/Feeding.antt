@@ -1,9 +1,9 @@
 -- A reader that has been fed a part of an input and has written into a lent buffer: where it stands, and how it goes on.
 use Rattle.lists.specs.Basics.{List, [], _++_, append-nil, _≡_, refl, sym, ap, _∙_, ℕ, suc, _+_, _-_, _≤_, _<_, arith, length, take, drop, length-append, length-drop}
-use Rattle.lists.specs.Basics.{take-append-drop, take-all, take-take, drop-length}
+use Rattle.lists.specs.Basics.{take-append-drop, take-take, drop-length}
 use Rattle.protocol.specs.{Frames.Line, Step.{Outcome, step}}
-use Rattle.transcript.specs.{Reading.{Reading, LINE, line-room, answer-room, within, printed, takes}, Pieces.kept-step, Copies.{put-at, wrote-more}, Printed.printed-fits}
-use Rattle.transcript.specs.{LineWise.{line-end, line-end-le, line-part, Reads, reads-none, reads-more, reads-part, reads-line, takes-none}}
+use Rattle.transcript.specs.{Reading.{Reading, line-room, answer-room, within, printed, takes}, Pieces.kept-step, Copies.{put-at, wrote-more}, Printed.printed-fits}
+use Rattle.transcript.specs.{LineWise.{line-end, line-part, Reads, reads-none, reads-more, reads-part, reads-line, takes-none}}
 use Rattle.protocol.specs.Parts as parts
 
 -- r was fed the first t bytes of the input and is `now`; it wrote w bytes, its answers, to a buffer that held out₀
@@ -40,12 +40,6 @@ module _ (r : Reading) (input out₀ : List ℕ) (now : Reading) (t w : ℕ) (ou
 
   pub no-room : length out₀ - w < answer-room → t ≡ takes (length out₀) r input
   no-room h = sym (inv .reads .taken ∙ rw (takes-none (length out₀ - w) now (drop t input) h) (omega arith))
-
--- what is kept of a line, in an array of just that room
-pub kept-part : (room : ℕ) (l : Line) (t n : ℕ) (input : List ℕ) (kept : Line) → room ≡ LINE → n ≡ line-end (drop t input) → kept ≡ take room (l ++ take (t + n - t) (drop t input))
-    → kept ≡ take line-room (l ++ line-part (drop t input))
-unfolding line-room
-kept-part room l t n input kept e f g = let d : t + n - t ≡ line-end (drop t input) = omega arith in g ∙ rw (e, d)
 
 -- ---- a turn of the loop: `kept` is what is kept of the line up to `end`, before the next newline
 module _ (r : Reading) (input out₀ : List ℕ) (s : parts.State) (l : Line) (t w : ℕ) (out : List ℕ) (inv : Fed-so-far r input out₀ (within s l) t w out) (room : answer-room ≤ length out₀ - w)

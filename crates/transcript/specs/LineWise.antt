@@ -1,6 +1,6 @@
 -- Reading line by line is reading byte by byte: up to the next newline, and past it.
-use Rattle.lists.specs.Basics.{false, List, [], _∷_, _++_, append-assoc, append-nil, _≡_, refl, ap, _∙_, ℕ, suc, _+_, _-_, _≤_, _<_, add-one, arith, le-leb, lt-leb}
-use Rattle.lists.specs.Basics.{eq-eqb, ne-eqb, eqb, length, take, drop, getD, length-append, length-drop, drop-of-length-le, drop-cons, drop-drop, take-add, take-all}
+use Rattle.lists.specs.Basics.{false, List, [], _∷_, _++_, append-assoc, append-nil, _≡_, refl, _∙_, ℕ, suc, _+_, _-_, _≤_, _<_, add-one, arith, le-leb, lt-leb}
+use Rattle.lists.specs.Basics.{eq-eqb, ne-eqb, eqb, length, take, drop, getD, length-append, drop-of-length-le, drop-cons, drop-drop, take-add}
 use Rattle.lists.specs.Tests.{either}
 use Rattle.arrays.specs.Place.{place, place-le}
 use Rattle.protocol.specs.{Frames.Line, Lines.newline, Step.step}
@@ -15,9 +15,6 @@ line-end i = place (λ b. eqb b newline) i
 pub line-end-le : (i : List ℕ) → line-end i ≤ length i
 unfolding line-end
 line-end-le i = place-le (λ b. eqb b newline) i
-
-pub line-end-rest : (t : ℕ) (i : List ℕ) (n : ℕ) → n ≡ line-end (take (length i - t) (drop t i)) → n ≡ line-end (drop t i)
-line-end-rest t i n e = e ∙ ap line-end (take-all (length i - t) (drop t i) (omega (arith, length-drop t i)))
 
 -- the part of the input that belongs to the line under way
 abbrev pub line-part : List ℕ → List ℕ

@@ -78,15 +78,10 @@ module _ (s : parts.State) (l : Line) (b : ℕ) where
   unfolding byte-output
   goes-on-silent e = rw e
 
--- ---- at the end
-pub ending : (s : parts.State) (l : Line) → last-output (within s l) ≡ cond (is-empty l) [] (printed (step s l .answer))
-unfolding last-output
-ending s l = rw (ends-output s l newline refl, kept-empty s l)
-
 -- ---- the whole: what is printed on the way and at the end
 transcribes : (s : parts.State) (l : Line) (i : List ℕ) → output (within s l) i ++ last-output (read-all (within s l) i) ≡ print (answers-from s (continued l (lines i)))
 unfolding output read-all answers-from print printed
-transcribes s l [] = unfold continued lines in rw ending (either (is-empty l) (λ e. rw e) (λ e. rw e))
+transcribes s l [] = unfold last-output continued lines in rw (ends-output s l newline refl, kept-empty s l) (either (is-empty l) (λ e. rw e) (λ e. rw e))
 transcribes s l (b ∷ i) =
     either (eqb b newline)
     (λ e. rw (ends-output s l b e, ends-state s l b e, continued-hit l b i e)

@@ -1,8 +1,8 @@
 -- A buffer of 15 bytes a line has room for every answer.
-use Rattle.lists.specs.Basics.{true, false, List, [], _∷_, _++_, _≡_, refl, _∙_, ℕ, _*_, _-_, _≤_, _<_, arith, eq-eqb, le-leb, eqb, length, take-length, drop-length}
+use Rattle.lists.specs.Basics.{true, List, [], _∷_, _++_, _≡_, refl, _∙_, ℕ, _*_, _-_, _≤_, _<_, arith, eq-eqb, le-leb, eqb, length, take-length, drop-length}
 use Rattle.lists.specs.Tests.{either}
-use Rattle.protocol.specs.{Frames.Line, Lines.{newline, extend, lines}, Step.{step, answers}}
-use Rattle.transcript.specs.{Reading.{Reading, answer-room, within, beginning, printed, read-all, output, is-empty, takes, finishes}}
+use Rattle.protocol.specs.{Frames.Line, Lines.{newline, lines}, Step.{step, answers}}
+use Rattle.transcript.specs.{Reading.{Reading, answer-room, within, beginning, printed, is-empty, takes, finishes}}
 use Rattle.transcript.specs.{Pieces.{continued, continued-nothing, continued-hit, continued-miss, kept-empty, ends-state, ends-output}}
 use Rattle.transcript.specs.{LineWise.{Reads, reads-none, reads-byte, reads-on}, Printed.printed-fits, View.{enough, whole-output}}
 use Rattle.protocol.specs.Parts as parts
