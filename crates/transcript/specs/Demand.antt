@@ -1,22 +1,21 @@
 -- The state that a reader holds: that of the lines that are finished, and, if it is quiet, demand 3 of it.
 use Rattle.lists.specs.Basics.{_≡_, refl, ap, _∙_, true, cond, List, [], _∷_, _++_, ℕ, eqb}
 use Rattle.lists.specs.Tests.{either}
-use Rattle.protocol.specs.{Frames.Line, Lines.{newline, lines}, Step.{Outcome, step, run}, Demand3.{Quiet, Agrees, Begins, state-after, history-after}, Recovery.Theorem.demand3}
+use Rattle.protocol.specs.{Parts.{State, start}, Frames.Line, Lines.{newline, lines}, Step.{Outcome, step, run}, Demand3.{Quiet, Agrees, Begins, state-after, history-after}, Recovery.Theorem.demand3}
 use Rattle.transcript.specs.{Reading.{Reading, within, beginning, read-all, is-empty, finishes, end-state}}
 use Rattle.transcript.specs.{Pieces.{continued, continued-nothing, continued-hit, continued-miss, kept-step, kept-empty, ends-state, goes-on}}
-use Rattle.protocol.specs.Parts as parts
 
 -- one crash-free run has the state's chares, sequences and unworked messages, and every earlier quiet moment's sequences begin them
-pub record Recovered (s : parts.State) (moment : List Line) : Type 0 where
+pub record Recovered (s : State) (moment : List Line) : Type 0 where
   pub agrees : Agrees s (history-after moment)
   pub begins : (earlier since : List Line) → earlier ++ since ≡ moment → Quiet (state-after earlier) → Begins earlier moment
 
 -- the state after some lines, and, if it is quiet, demand 3
-pub record After (moment : List Line) (s : parts.State) : Type 0 where
+pub record After (moment : List Line) (s : State) : Type 0 where
   pub is : s ≡ state-after moment
   pub recovers : Quiet s → Recovered s moment
 
-pub after : (moment : List Line) (s : parts.State) → s ≡ state-after moment → After moment s
+pub after : (moment : List Line) (s : State) → s ≡ state-after moment → After moment s
 after moment s e = rw e (record { is = refl; recovers = λ q. let h = demand3 moment q in record { agrees = h .agrees; begins = h .begins } })
 
 -- the lines of an input that a newline has ended; l was read before
@@ -28,7 +27,7 @@ unfoldable pub finished : List ℕ → List Line
 finished i = ended [] i
 
 -- ---- on the way
-reads-ended : (s : parts.State) (l : Line) (i : List ℕ) → read-all (within s l) i .state ≡ run s (ended l i)
+reads-ended : (s : State) (l : Line) (i : List ℕ) → read-all (within s l) i .state ≡ run s (ended l i)
 unfolding read-all ended run
 reads-ended s l [] = unfold within in refl
 reads-ended s l (b ∷ i) = either (eqb b newline)
@@ -37,11 +36,11 @@ reads-ended s l (b ∷ i) = either (eqb b newline)
 
 pub finished-state : (i : List ℕ) → read-all beginning i .state ≡ state-after (finished i)
 unfolding beginning finished state-after
-finished-state i = reads-ended parts.start [] i
+finished-state i = reads-ended start [] i
 
 -- ---- at the end, where there is room for it
 module _ (room : ℕ) where
-  ends-continued : (s : parts.State) (l : Line) (i : List ℕ) → finishes room (read-all (within s l) i) ≡ true → end-state room (read-all (within s l) i) ≡ run s (continued l (lines i))
+  ends-continued : (s : State) (l : Line) (i : List ℕ) → finishes room (read-all (within s l) i) ≡ true → end-state room (read-all (within s l) i) ≡ run s (continued l (lines i))
   unfolding read-all run
   ends-continued s l [] h =
       unfold finishes end-state continued lines in
@@ -54,4 +53,4 @@ module _ (room : ℕ) where
 
   pub ended-state : (i : List ℕ) → finishes room (read-all beginning i) ≡ true → end-state room (read-all beginning i) ≡ state-after (lines i)
   unfolding beginning state-after
-  ended-state i h = ends-continued parts.start [] i h ∙ rw continued-nothing
+  ended-state i h = ends-continued start [] i h ∙ rw continued-nothing

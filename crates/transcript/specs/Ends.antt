@@ -67,7 +67,8 @@ module _ (r : Reading) (room : ℕ) (begun : is-empty (r .line) ≡ false) where
   unfolding finishes end-output last-output takes output
   taken-output = either (leb answer-room room) (λ e. rw (begun, e, append-nil)) (λ e. rw (begun, e))
 
-pub ends-begun : (r : Reading) (room : List ℕ) → is-empty (r .line) ≡ false → (f : Fed) (s line out : List ℕ) → Feeding r (newline ∷ []) room f s line out → Ending r room (record { ok = eqb (f .taken) 1; written = f .written }) s out
+pub ends-begun : (r : Reading) (room : List ℕ) → is-empty (r .line) ≡ false → (f : Fed) (s line out : List ℕ) → Feeding r (newline ∷ []) room f s line out
+    → Ending r room (record { ok = eqb (f .taken) 1; written = f .written }) s out
 unfolding reading within
 ends-begun r room begun f s line out h =
     let o : end-output (length room) r ≡ output r (take (f .taken) (newline ∷ [])) = rw (h .taken) (taken-output r (length room) begun) in
@@ -79,7 +80,8 @@ ends-begun r room begun f s line out h =
 
 -- ---- a whole input
 -- some of it was not taken
-pub whole-short : (input room : List ℕ) (f : Fed) (s line out : List ℕ) → Feeding beginning input room f s line out → f .taken < length input → Transcribed input room (record { ok = false; written = f .written }) out
+pub whole-short : (input room : List ℕ) (f : Fed) (s line out : List ℕ) → Feeding beginning input room f s line out → f .taken < length input
+    → Transcribed input room (record { ok = false; written = f .written }) out
 unfolding enough whole-output
 whole-short input room f s line out h less =
     let n : eqb (takes (length room) beginning input) (length input) ≡ false = ne-eqb (takes (length room) beginning input) (length input) (λ e. omega (arith, h .taken)) in

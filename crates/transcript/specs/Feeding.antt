@@ -1,10 +1,9 @@
 -- A reader that has been fed a part of an input and has written into a lent buffer: where it stands, and how it goes on.
 use Rattle.lists.specs.Basics.{List, [], _++_, append-nil, _≡_, refl, sym, ap, _∙_, ℕ, suc, _+_, _-_, _≤_, _<_, arith, length, take, drop, length-append, length-drop}
 use Rattle.lists.specs.Basics.{take-append-drop, take-take, drop-length}
-use Rattle.protocol.specs.{Frames.Line, Step.{Outcome, step}}
+use Rattle.protocol.specs.{Parts.State, Frames.Line, Step.{Outcome, step}}
 use Rattle.transcript.specs.{Reading.{Reading, line-room, answer-room, within, printed, takes}, Pieces.kept-step, Copies.{put-at, wrote-more}, Printed.printed-fits}
 use Rattle.transcript.specs.{LineWise.{line-end, line-part, Reads, reads-none, reads-more, reads-part, reads-line, takes-none}}
-use Rattle.protocol.specs.Parts as parts
 
 -- r was fed the first t bytes of the input and is `now`; it wrote w bytes, its answers, to a buffer that held out₀
 pub record Fed-so-far (r : Reading) (input out₀ : List ℕ) (now : Reading) (t w : ℕ) (out : List ℕ) : Type 0 where
@@ -42,7 +41,7 @@ module _ (r : Reading) (input out₀ : List ℕ) (now : Reading) (t w : ℕ) (ou
   no-room h = sym (inv .reads .taken ∙ rw (takes-none (length out₀ - w) now (drop t input) h) (omega arith))
 
 -- ---- a turn of the loop: `kept` is what is kept of the line up to `end`, before the next newline
-module _ (r : Reading) (input out₀ : List ℕ) (s : parts.State) (l : Line) (t w : ℕ) (out : List ℕ) (inv : Fed-so-far r input out₀ (within s l) t w out) (room : answer-room ≤ length out₀ - w)
+module _ (r : Reading) (input out₀ : List ℕ) (s : State) (l : Line) (t w : ℕ) (out : List ℕ) (inv : Fed-so-far r input out₀ (within s l) t w out) (room : answer-room ≤ length out₀ - w)
     (kept : Line) (is-kept : kept ≡ take line-room (l ++ line-part (drop t input))) (end : ℕ) (is-end : end ≡ t + line-end (drop t input)) where
   -- the line ends there, and its answer is put
   pub fed-turn : end < length input → (o : Outcome) → o ≡ step s kept → (n : ℕ) (next : List ℕ) → n ≡ length (printed (o .answer)) → next ≡ put-at out w (printed (o .answer))

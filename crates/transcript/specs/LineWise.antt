@@ -3,10 +3,9 @@ use Rattle.lists.specs.Basics.{false, List, [], _∷_, _++_, append-assoc, appe
 use Rattle.lists.specs.Basics.{eq-eqb, ne-eqb, eqb, length, take, drop, getD, length-append, drop-of-length-le, drop-cons, drop-drop, take-add}
 use Rattle.lists.specs.Tests.{either}
 use Rattle.arrays.specs.Place.{place, place-le}
-use Rattle.protocol.specs.{Frames.Line, Lines.newline, Step.step}
+use Rattle.protocol.specs.{Parts.State, Frames.Line, Lines.newline, Step.step}
 use Rattle.transcript.specs.{Reading.{Reading, answer-room, within, printed, read-byte, byte-output, read-all, output, takes}}
 use Rattle.transcript.specs.{Pieces.{read-append, output-append, ends-state, ends-output, goes-on, goes-on-silent}}
-use Rattle.protocol.specs.Parts as parts
 
 -- how many bytes stand before the first newline; all, where there is none
 unfoldable pub line-end : List ℕ → ℕ
@@ -45,7 +44,8 @@ pub reads-none : (room : ℕ) (r : Reading) (i : List ℕ) → Reads room r 0 i 
 unfolding read-all output
 reads-none room r i = record { reader = refl; prints = refl; leaves = omega arith; taken = omega arith }
 
-pub reads-more : {room mid left : ℕ} {r q next : Reading} {m n : ℕ} {i o p : List ℕ} → Reads room r m i mid q o → Reads mid q n (drop m i) left next p → Reads room r (m + n) i left next (o ++ p)
+pub reads-more : {room mid left : ℕ} {r q next : Reading} {m n : ℕ} {i o p : List ℕ} → Reads room r m i mid q o → Reads mid q n (drop m i) left next p
+    → Reads room r (m + n) i left next (o ++ p)
 reads-more {m = m} {n} {i} a b = record {
   reader = rw (take-add m n i, read-append, a .reader) (b .reader);
   prints = rw (take-add m n i, output-append, a .prints, a .reader, b .prints);
@@ -64,7 +64,7 @@ reads-byte {room} h is-q is-o rest a = record {
   taken = rw (le-leb answer-room room h, is-q, is-o, ← rest) (omega (arith, a .taken));
 }
 
-module _ (s : parts.State) (room : ℕ) (h : answer-room ≤ room) where
+module _ (s : State) (room : ℕ) (h : answer-room ≤ room) where
   pub reads-on : (l : Line) (b : ℕ) → eqb b newline ≡ false → {left : ℕ} {next : Reading} {m : ℕ} {i p : List ℕ} → Reads room (within s (l ++ (b ∷ []))) m i left next p
       → Reads room (within s l) (suc m) (b ∷ i) left next p
   reads-on l b e a = reads-byte h (goes-on s l b e) (goes-on-silent s l b e) (omega arith) a

@@ -2,10 +2,9 @@
 use Rattle.lists.specs.Basics.{true, false, cond, List, [], _∷_, _++_, append-assoc, append-nil, _≡_, refl, sym, ap, _∙_, ℕ, zero, suc, arith, eqb, length, take, length-take}
 use Rattle.lists.specs.Basics.{take-all, take-nil, inl, inr}
 use Rattle.lists.specs.Tests.{either, lt?}
-use Rattle.protocol.specs.{Frames.Line, Lines.{newline, extend, lines, line, print}, Step.{step, answers-from, answers}}
+use Rattle.protocol.specs.{Parts.{State, start}, Frames.Line, Lines.{newline, extend, lines, line, print}, Step.{step, answers-from, answers}}
 use Rattle.engine.specs.LongLine.{long-line}
 use Rattle.transcript.specs.Reading.{Reading, line-room, within, beginning, printed, read-byte, byte-output, read-all, output, is-empty, last-output}
-use Rattle.protocol.specs.Parts as parts
 
 -- ---- pieces
 pub read-append : (r : Reading) (a b : List ℕ) → read-all r (a ++ b) ≡ read-all (read-all r a) b
@@ -49,19 +48,19 @@ take-more zero a p = refl
 take-more (suc n) [] p = refl
 take-more (suc n) (x ∷ a) p = ap (x ∷_) (take-more n a p)
 
-pub kept-step : (s : parts.State) (l : Line) → step s (take line-room l) ≡ step s l
+pub kept-step : (s : State) (l : Line) → step s (take line-room l) ≡ step s l
 kept-step s l = elim (lt? line-room (length l)) [
   | inl h ↦ long-line s (take line-room l) (unfold line-room in omega (arith, length-take line-room l)) ∙ sym (long-line s l (unfold line-room in omega arith))
   | inr h ↦ ap (step s) (take-all line-room l h)
 ]
 
-pub kept-empty : (s : parts.State) (l : Line) → is-empty (within s l .line) ≡ is-empty l
+pub kept-empty : (s : State) (l : Line) → is-empty (within s l .line) ≡ is-empty l
 unfolding within is-empty line-room
 kept-empty s [] = refl
 kept-empty s (x ∷ l) = refl
 
 -- ---- a byte more
-module _ (s : parts.State) (l : Line) (b : ℕ) where
+module _ (s : State) (l : Line) (b : ℕ) where
   pub ends-state : eqb b newline ≡ true → read-byte (within s l) b ≡ within (step s l .state) []
   unfolding within read-byte
   ends-state e = rw (e, kept-step) (λ i. record { state = step s l .state; line = sym (take-nil line-room) i })
@@ -79,7 +78,7 @@ module _ (s : parts.State) (l : Line) (b : ℕ) where
   goes-on-silent e = rw e
 
 -- ---- the whole: what is printed on the way and at the end
-transcribes : (s : parts.State) (l : Line) (i : List ℕ) → output (within s l) i ++ last-output (read-all (within s l) i) ≡ print (answers-from s (continued l (lines i)))
+transcribes : (s : State) (l : Line) (i : List ℕ) → output (within s l) i ++ last-output (read-all (within s l) i) ≡ print (answers-from s (continued l (lines i)))
 unfolding output read-all answers-from print printed
 transcribes s l [] = unfold last-output continued lines in rw (ends-output s l newline refl, kept-empty s l) (either (is-empty l) (λ e. rw e) (λ e. rw e))
 transcribes s l (b ∷ i) =
@@ -91,4 +90,4 @@ transcribes s l (b ∷ i) =
 
 pub reads-transcript : (i : List ℕ) → output beginning i ++ last-output (read-all beginning i) ≡ answers i
 unfolding beginning answers
-reads-transcript i = transcribes parts.start [] i ∙ rw continued-nothing
+reads-transcript i = transcribes start [] i ∙ rw continued-nothing

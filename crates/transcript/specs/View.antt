@@ -25,8 +25,8 @@ pub record Feeding (r : Reading) (input room : List ℕ) (f : Fed) (s line out :
   -- whatever pieces came before: the state of the finished lines, and demand 3 of it
   pub demand : (before : List ℕ) → r ≡ read-all beginning before → After (finished (before ++ take (f .taken) input)) (view s)
 
-pub fed : (q r : Reading) → q ≡ r → (input room s : List ℕ) (len : ℕ) (line : List ℕ) (t w : ℕ) (out : List ℕ) → Fed-so-far q input room (within (view s) (take len line)) t w out → t ≡ takes (length room) q input
-    → Feeding r input room (record { len = len; taken = t; written = w }) s line out
+pub fed : (q r : Reading) → q ≡ r → (input room s : List ℕ) (len : ℕ) (line : List ℕ) (t w : ℕ) (out : List ℕ) → Fed-so-far q input room (within (view s) (take len line)) t w out
+    → t ≡ takes (length room) q input → Feeding r input room (record { len = len; taken = t; written = w }) s line out
 unfolding reading within
 fed q r e input room s len line t w out inv f =
     let reader = inv .reads .reader in
