@@ -1,7 +1,7 @@
 -- The frame that the reader answers decides the step: what its crate gives, and then what settles.
 use Rattle.lists.specs.Basics.{_≡_, refl, sym, ap, _∙_, Bool, true, false, Option, some, none, ℕ}
 use Rattle.lists.specs.Questions.{asks}
-use Rattle.protocol.specs.{declared.Answer.the-variants.{Accepted, Refused}, declared.Entry.Entry, declared.Packet.Packet, Parts.State, Frames.{Line, frame}}
+use Rattle.protocol.specs.{declared.Answer.the-variants.{Accepted, Refused}, Parts.State, Frames.{Line, frame}}
 use Rattle.protocol.specs.{Job.begin, Sending.send, Working.next-entry, Checkpoint.checkpoint, Crash.has-cover, Restart.restart}
 use Rattle.protocol.specs.Questions.{questions, job-questions, inject-questions, deliver-questions, on-wire, work-questions, checkpoint-questions, crash-questions, restart-questions, show-questions}
 use Rattle.protocol.specs.{Step.{Outcome, accept, crash-outcome, deliver-outcome, work-outcome, outcome, judged, play, step-frame, step}}
@@ -26,17 +26,14 @@ acted s l (Crash p) = judged s (asks 2 (crash-questions s p) (crash-tried s p (h
 acted s l (Restart p) = tried s (restart-questions s p) (restart s p)
 acted s l (Show c) = judged s (asks 2 (show-questions s c) (shown s c))
 
+-- accepted, whether or not there is something to act on
+accepts : {X : Type 0} (x : Option X → Outcome) (t : Option X → State) → x none ≡ accept (t none) → ((a : X) → x (some a) ≡ accept (t (some a)))
+    → (o : Option X) → x o ≡ settle-after (record { state = t o; answer = Accepted })
+unfolding accept settle-after settles
+accepts x t p q none = p
+accepts x t p q (some a) = q a
+
 module _ (s : State) where
-  deliver-settles : (k a r n : ℕ) (o : Option Packet) → deliver-outcome s k a r n o ≡ settle-after (record { state = delivered s k a r n o; answer = Accepted })
-  unfolding deliver-outcome accept delivered settle-after settles
-  deliver-settles k a r n none = refl
-  deliver-settles k a r n (some p) = refl
-
-  work-settles : (c : ℕ) (o : Option Entry) → work-outcome s c o ≡ settle-after (record { state = worked-state s c o; answer = Accepted })
-  unfolding work-outcome accept worked-state settle-after settles
-  work-settles c none = refl
-  work-settles c (some e) = refl
-
   crash-settles : (p : ℕ) (b : Bool) → crash-outcome s p b ≡ settle-after (crash-tried s p b)
   unfolding crash-outcome accept crash-tried settle-after settles
   crash-settles p true = refl
@@ -44,12 +41,12 @@ module _ (s : State) where
 
   -- the definitions' step is the frame's act, and then what settles
   acted-settles : (l : Line) (f : Frame) → step-frame s (meaning l f) ≡ settle-after (acted s l f)
-  unfolding step-frame meaning play outcome questions accept acted tried shown settle-after settles
+  unfolding step-frame meaning play outcome deliver-outcome work-outcome questions accept acted tried delivered worked-state shown settle-after settles
   acted-settles l Garbled = refl
   acted-settles l Job = judged-settles s 2 _ _ _ refl
   acted-settles l (Inject c v h) = judged-settles s 2 _ _ _ refl
-  acted-settles l (Deliver k a r n) = judged-settles s 2 _ _ _ (deliver-settles k a r n (on-wire s k a r n))
-  acted-settles l (Work c) = judged-settles s 2 _ _ _ (work-settles c (next-entry (s .live c)))
+  acted-settles l (Deliver k a r n) = judged-settles s 2 _ _ _ (accepts (deliver-outcome s k a r n) (delivered s k a r n) refl (λ p. refl) (on-wire s k a r n))
+  acted-settles l (Work c) = judged-settles s 2 _ _ _ (accepts (work-outcome s c) (worked-state s c) refl (λ e. refl) (next-entry (s .live c)))
   acted-settles l (Checkpoint p) = judged-settles s 2 _ _ _ refl
   acted-settles l (Crash p) = judged-settles s 2 _ _ _ (crash-settles p (has-cover s p))
   acted-settles l (Restart p) = judged-settles s 2 _ _ _ refl

@@ -15,7 +15,7 @@ read-append r (x ∷ a) b = read-append (read-byte r x) a b
 pub output-append : (r : Reading) (a b : List ℕ) → output r (a ++ b) ≡ output r a ++ output (read-all r a) b
 unfolding read-all output
 output-append r [] b = refl
-output-append r (x ∷ a) b = ap (byte-output r x ++_) (output-append (read-byte r x) a b) ∙ sym (append-assoc (byte-output r x) (output (read-byte r x) a) (output (read-all (read-byte r x) a) b))
+output-append r (x ∷ a) b = rw append-assoc (ap (byte-output r x ++_) (output-append (read-byte r x) a b))
 
 -- ---- the lines of an input of which l was read before; ls are those of the rest
 unfoldable pub continued : Line → List Line → List Line
@@ -84,8 +84,7 @@ transcribes s l [] = unfold last-output continued lines in rw (ends-output s l n
 transcribes s l (b ∷ i) =
     either (eqb b newline)
     (λ e. rw (ends-output s l b e, ends-state s l b e, continued-hit l b i e)
-    (append-assoc (printed (step s l .answer)) (output (within (step s l .state) []) i) _
-    ∙ rw (transcribes (step s l .state) [] i) (append-assoc (line (step s l .answer)) (newline ∷ []) _)))
+    (simp append-assoc (ap (λ k. line (step s l .answer) ++ (newline ∷ k)) (transcribes (step s l .state) [] i))))
     (λ e. rw (goes-on-silent s l b e, goes-on s l b e, continued-miss l b i e) (transcribes s (l ++ (b ∷ [])) i))
 
 pub reads-transcript : (i : List ℕ) → output beginning i ++ last-output (read-all beginning i) ≡ answers i
