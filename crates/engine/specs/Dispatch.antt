@@ -3,7 +3,8 @@ use Rattle.lists.specs.Basics.{_≡_, refl, sym, ap, _∙_, Bool, true, false, 
 use Rattle.lists.specs.Questions.{asks}
 use Rattle.protocol.specs.{declared.Answer.the-variants.{Accepted, Refused}, Parts.State, Frames.{Line, frame}}
 use Rattle.protocol.specs.{Job.begin, Sending.send, Working.next-entry, Checkpoint.checkpoint, Crash.has-cover, Restart.restart}
-use Rattle.protocol.specs.Questions.{questions, job-questions, inject-questions, deliver-questions, on-wire, work-questions, checkpoint-questions, crash-questions, restart-questions, show-questions}
+use Rattle.protocol.specs.Questions.{questions, job-questions, inject-questions, deliver-questions, on-wire, work-questions}
+use Rattle.protocol.specs.Questions.{checkpoint-questions, crash-questions, restart-questions, show-questions}
 use Rattle.protocol.specs.{Step.{Outcome, accept, crash-outcome, deliver-outcome, work-outcome, outcome, judged, play, step-frame, step}}
 use Rattle.frames.specs.{Decode.decoded, Read.{read-as, meaning}, ReadLaws.frame-meaning, declared.Frame.Frame}
 use Rattle.frames.specs.{declared.Frame.the-variants.{Garbled, Job, Inject, Deliver, Work, Checkpoint, Crash, Restart, Show}}

@@ -1,7 +1,8 @@
 -- The state that a reader holds: that of the lines that are finished, and, if it is quiet, demand 3 of it.
 use Rattle.lists.specs.Basics.{_≡_, refl, ap, _∙_, true, cond, List, [], _∷_, _++_, ℕ, eqb}
 use Rattle.lists.specs.Tests.{either}
-use Rattle.protocol.specs.{Parts.{State, start}, Frames.Line, Lines.{newline, lines}, Step.{Outcome, step, run}, Demand3.{Quiet, Agrees, Begins, state-after, history-after}, Recovery.Theorem.demand3}
+use Rattle.protocol.specs.{Parts.{State, start}, Frames.Line, Lines.{newline, lines}, Step.{Outcome, step, run}}
+use Rattle.protocol.specs.{Demand3.{Quiet, Agrees, Begins, state-after, history-after}, Recovery.Theorem.demand3}
 use Rattle.transcript.specs.{Reading.{within, beginning, read-all, is-empty, finishes, end-state}}
 use Rattle.transcript.specs.{Pieces.{continued, continued-nothing, continued-hit, continued-miss, kept-step, kept-empty, ends-state, goes-on}}
 

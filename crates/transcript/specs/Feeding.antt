@@ -21,8 +21,8 @@ nothing-yet r input out₀ =
 
 module _ (r : Reading) (input out₀ : List ℕ) (now : Reading) (t w : ℕ) (out : List ℕ) (inv : Fed-so-far r input out₀ now t w out) where
   -- m bytes more, which print o
-  fed-more : (m left : ℕ) (next : Reading) (o : List ℕ) (v : ℕ) → Reads (length out₀ - w) now m (drop t input) left next o → t + m ≤ length input → v ≡ w + length o → v ≤ length out₀
-      → Fed-so-far r input out₀ next (t + m) v (take w out ++ o ++ drop v out)
+  fed-more : (m left : ℕ) (next : Reading) (o : List ℕ) (v : ℕ) → Reads (length out₀ - w) now m (drop t input) left next o → t + m ≤ length input
+      → v ≡ w + length o → v ≤ length out₀ → Fed-so-far r input out₀ next (t + m) v (take w out ++ o ++ drop v out)
   fed-more m left next o v more there is-v room = record {
     answers = inv .answers ++ o;
     reads = let e : left ≡ length out₀ - v = omega arith in reads-more (inv .reads) (rw e at more);
