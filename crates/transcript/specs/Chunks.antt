@@ -1,5 +1,5 @@
 -- An input that comes in pieces of any sizes: the bytes written are the transcript of the whole.
-use Rattle.lists.specs.Basics.{List, [], _∷_, _++_, _≡_, refl, ap, _∙_, ℕ}
+use Rattle.lists.specs.Basics.{List, [], _∷_, _++_, append-assoc, _≡_, refl, ap, _∙_, ℕ}
 use Rattle.lists.specs.Lists.{gather}
 use Rattle.transcript.specs.{Reading.{Reading, beginning, read-all, output, last-output}, Pieces.{read-append, output-append, reads-transcript}}
 use Rattle.protocol.specs.Step.{answers}
@@ -16,15 +16,10 @@ unfoldable pub output-pieces : Reading → List (List ℕ) → List ℕ
 output-pieces r [] = []
 output-pieces r (p ∷ ps) = output r p ++ output-pieces (read-all r p) ps
 
-same-reader : (r : Reading) (ps : List (List ℕ)) → read-pieces r ps ≡ read-all r (joined ps)
-unfolding read-pieces joined gather read-all
-same-reader r [] = refl
-same-reader r (p ∷ ps) = same-reader (read-all r p) ps ∙ rw read-append
-
-same-output : (r : Reading) (ps : List (List ℕ)) → output-pieces r ps ≡ output r (joined ps)
-unfolding output-pieces joined gather output
-same-output r [] = refl
-same-output r (p ∷ ps) = rw output-append (ap (output r p ++_) (same-output (read-all r p) ps))
+same-pieces : (r : Reading) (ps : List (List ℕ)) → output-pieces r ps ++ last-output (read-pieces r ps) ≡ output r (joined ps) ++ last-output (read-all r (joined ps))
+unfolding read-pieces output-pieces joined gather read-all output
+same-pieces r [] = refl
+same-pieces r (p ∷ ps) = rw (read-append, output-append) (simp append-assoc (ap (output r p ++_) (same-pieces (read-all r p) ps)))
 
 pub pieces-transcript : (ps : List (List ℕ)) → output-pieces beginning ps ++ last-output (read-pieces beginning ps) ≡ answers (joined ps)
-pieces-transcript ps = rw (same-reader, same-output) (reads-transcript (joined ps))
+pieces-transcript ps = same-pieces beginning ps ∙ reads-transcript (joined ps)

@@ -1,6 +1,6 @@
 -- Copying into an array: what stands there afterwards.
-use Rattle.lists.specs.Basics.{inl, inr, List, _++_, _≡_, refl, sym, ap, _∙_, ℕ, _+_, _-_, _≤_, _<_, min, add-one, arith, length, take, drop, set, getD, length-set, paste}
-use Rattle.lists.specs.Basics.{paste-zero, paste-suc, take-paste, take-append-add, length-take-le, take-all}
+use Rattle.lists.specs.Basics.{inl, inr, List, _++_, _≡_, sym, ap, _∙_, ℕ, _+_, _-_, _≤_, _<_, min, add-one, arith, length, take, drop, set, getD, length-set, paste}
+use Rattle.lists.specs.Basics.{paste-suc, take-paste, take-append-add, length-take-le, take-all, take-at, drop-at, drop-drop}
 use Rattle.lists.specs.Tests.{lt?}
 
 module _ {A : Type 0} where
@@ -20,9 +20,6 @@ module _ {A : Type 0} where
     pub long : length out ≡ length d
     pub same : out ≡ paste d at s i
 
-  pub copy-none : (d : List A) (at : ℕ) (s : List A) → Copied d at s 0 d
-  copy-none d at s = record { long = refl; same = paste-zero d at s }
-
   pub copy-one : (d : List A) (at : ℕ) (s : List A) (i : ℕ) (out : List A) (z : A) → Copied d at s i out → at + i < length d → i < length s → Copied d at s (i + 1) (set out (at + i) (getD s i z))
   copy-one d at s i out z c h g = record {
     long = length-set out (at + i) (getD s i z) ∙ c .long;
@@ -38,3 +35,13 @@ module _ {A : Type 0} where
       take-paste l n p k h (omega arith)
       ∙ rw whole (sym (take-append-add (take n l) p (length l - n)))
       ∙ ap (λ j. take j (take n l ++ p)) (sym f)
+
+  -- o was written to the front of a buffer, and the rest of it stayed
+  module _ (o room out : List A) (w : ℕ) (long : w ≡ length o) (bytes : out ≡ o ++ drop w room) where
+    pub rest-stays : drop w out ≡ drop w room
+    rest-stays = ap (drop w) bytes ∙ drop-at o (drop w room) w (sym long)
+
+    pub wrote-more : (p : List A) (v : ℕ) → take w out ++ p ++ drop (w + v) out ≡ o ++ p ++ drop (w + v) room
+    wrote-more p v =
+        let front : take w out ≡ o = ap (take w) bytes ∙ take-at o (drop w room) w (sym long) in
+        rw (front, ← drop-drop v w out, rest-stays, drop-drop v w room)

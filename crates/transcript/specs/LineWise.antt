@@ -1,12 +1,11 @@
 -- Reading line by line is reading byte by byte: up to the next newline, and past it.
-use Rattle.lists.specs.Basics.{true, false, List, [], _∷_, _++_, append-assoc, append-nil, _≡_, refl, ap, _∙_, ℕ, suc, _+_, _-_, _≤_, _<_, add-one, arith, le-leb, lt-leb, eqb-true}
-use Rattle.lists.specs.Basics.{eq-eqb, ne-eqb, eqb, length, take, drop, getD, length-drop, drop-of-length-le, drop-cons, take-suc, take-all}
+use Rattle.lists.specs.Basics.{false, List, [], _∷_, _++_, append-assoc, append-nil, _≡_, refl, _∙_, ℕ, suc, _+_, _-_, _≤_, _<_, add-one, arith, le-leb, lt-leb}
+use Rattle.lists.specs.Basics.{eq-eqb, ne-eqb, eqb, length, take, drop, getD, length-append, drop-of-length-le, drop-cons, drop-drop, take-add}
 use Rattle.lists.specs.Tests.{either}
 use Rattle.arrays.specs.Place.{place, place-le}
-use Rattle.protocol.specs.{Frames.Line, Lines.newline, Step.step}
+use Rattle.protocol.specs.{Parts.State, Frames.Line, Lines.newline, Step.step}
 use Rattle.transcript.specs.{Reading.{Reading, answer-room, within, printed, read-byte, byte-output, read-all, output, takes}}
-use Rattle.transcript.specs.{Pieces.{read-cons, output-cons, read-one, output-one, read-append, output-append, ends-state, ends-output, goes-on, goes-on-silent}}
-use Rattle.protocol.specs.Parts as parts
+use Rattle.transcript.specs.{Pieces.{read-append, output-append, ends-state, ends-output, goes-on, goes-on-silent}}
 
 -- how many bytes stand before the first newline; all, where there is none
 unfoldable pub line-end : List ℕ → ℕ
@@ -16,102 +15,80 @@ pub line-end-le : (i : List ℕ) → line-end i ≤ length i
 unfolding line-end
 line-end-le i = place-le (λ b. eqb b newline) i
 
-pub line-end-rest : (t : ℕ) (i : List ℕ) (n : ℕ) → n ≡ line-end (take (length i - t) (drop t i)) → n ≡ line-end (drop t i)
-line-end-rest t i n e = e ∙ ap line-end (take-all (length i - t) (drop t i) (omega (arith, length-drop t i)))
-
 -- the part of the input that belongs to the line under way
 abbrev pub line-part : List ℕ → List ℕ
 line-part i = take (line-end i) i
 
-end-nil : line-end [] ≡ 0
-unfolding line-end place
-end-nil = refl
-
-end-hit : (b : ℕ) (i : List ℕ) → eqb b newline ≡ true → line-end (b ∷ i) ≡ 0
-unfolding line-end place
-end-hit b i e = rw e
-
-end-miss : (b : ℕ) (i : List ℕ) → eqb b newline ≡ false → line-end (b ∷ i) ≡ suc (line-end i)
-unfolding line-end place
-end-miss b i e = rw e
-
 -- ---- the loop that looks for it: k bytes are none
 module _ (i : List ℕ) (k : ℕ) (inv : line-end i ≡ k + line-end (drop k i)) where
   pub end-here : k < length i → getD i k 0 ≡ newline → k ≡ line-end i
-  end-here h e = let f = rw (drop-cons i k 0 h, end-hit (getD i k 0) (drop (suc k) i) (eq-eqb _ newline e)) at inv in omega arith
+  unfolding line-end place
+  end-here h e = let f = rw (drop-cons i k 0 h, eq-eqb _ newline e) at inv in omega arith
 
   pub end-later : k < length i → (getD i k 0 ≡ newline → ⊥) → line-end i ≡ k + 1 + line-end (drop (k + 1) i)
-  end-later h n = let f = rw (drop-cons i k 0 h, end-miss (getD i k 0) (drop (suc k) i) (ne-eqb _ newline n)) at inv in rw add-one (omega arith)
+  unfolding line-end place
+  end-later h n = let f = rw (drop-cons i k 0 h, ne-eqb _ newline n) at inv in rw add-one (omega arith)
 
   pub end-nowhere : length i ≤ k → k ≡ line-end i
-  end-nowhere h = let f = rw (drop-of-length-le i {i = k} h, end-nil) at inv in omega arith
+  unfolding line-end place
+  end-nowhere h = let f = rw (drop-of-length-le i {i = k} h) at inv in omega arith
 
--- ---- up to the next newline nothing is printed and the line grows
-module _ (s : parts.State) where
-  pub read-part : (l : Line) (i : List ℕ) → read-all (within s l) (line-part i) ≡ within s (l ++ line-part i)
-  unfolding read-all
-  read-part l [] = rw (end-nil, append-nil)
-  read-part l (b ∷ i) =
+-- ---- with so much room r takes the first m bytes of i, which print o, and goes on as `next`, with the room that is left
+pub record Reads (room : ℕ) (r : Reading) (m : ℕ) (i : List ℕ) (left : ℕ) (next : Reading) (o : List ℕ) : Type 0 where
+  pub reader : read-all r (take m i) ≡ next
+  pub prints : output r (take m i) ≡ o
+  pub leaves : left ≡ room - length o
+  pub taken : takes room r i ≡ m + takes left next (drop m i)
+
+pub reads-none : (room : ℕ) (r : Reading) (i : List ℕ) → Reads room r 0 i room r []
+unfolding read-all output
+reads-none room r i = record { reader = refl; prints = refl; leaves = omega arith; taken = omega arith }
+
+pub reads-more : {room mid left : ℕ} {r q next : Reading} {m n : ℕ} {i o p : List ℕ} → Reads room r m i mid q o → Reads mid q n (drop m i) left next p
+    → Reads room r (m + n) i left next (o ++ p)
+reads-more {m = m} {n} {i} a b = record {
+  reader = rw (take-add m n i, read-append, a .reader) (b .reader);
+  prints = rw (take-add m n i, output-append, a .prints, a .reader, b .prints);
+  leaves = rw length-append (omega arith);
+  taken = a .taken ∙ rw (b .taken, drop-drop) (omega arith);
+}
+
+-- a byte in front of m others
+pub reads-byte : {room mid left : ℕ} {r q next : Reading} {b m : ℕ} {i o p : List ℕ} → answer-room ≤ room → read-byte r b ≡ q → byte-output r b ≡ o → mid ≡ room - length o
+    → Reads mid q m i left next p → Reads room r (suc m) (b ∷ i) left next (o ++ p)
+unfolding read-all output takes
+reads-byte {room} h is-q is-o rest a = record {
+  reader = cc (a .reader);
+  prints = cc (a .prints);
+  leaves = rw length-append (omega arith);
+  taken = rw (le-leb answer-room room h, is-q, is-o, ← rest) (omega (arith, a .taken));
+}
+
+module _ (s : State) (room : ℕ) (h : answer-room ≤ room) where
+  pub reads-on : (l : Line) (b : ℕ) → eqb b newline ≡ false → {left : ℕ} {next : Reading} {m : ℕ} {i p : List ℕ} → Reads room (within s (l ++ (b ∷ []))) m i left next p
+      → Reads room (within s l) (suc m) (b ∷ i) left next p
+  reads-on l b e a = reads-byte h (goes-on s l b e) (goes-on-silent s l b e) (omega arith) a
+
+  -- up to the next newline nothing is printed and the line grows
+  pub reads-part : (l : Line) (i : List ℕ) → Reads room (within s l) (line-end i) i room (within s (l ++ line-part i)) []
+  unfolding line-end place
+  reads-part l [] = rw append-nil (reads-none room (within s l) [])
+  reads-part l (b ∷ i) =
       either (eqb b newline)
-      (λ e. rw (end-hit b i e, append-nil))
-      (λ e. rw (end-miss b i e, read-cons, goes-on s l b e) (read-part (l ++ (b ∷ [])) i ∙ rw append-assoc))
+      (λ e. rw (e, append-nil) (reads-none room (within s l) (b ∷ i)))
+      (λ e. rw (e, ← append-assoc l (b ∷ []) (line-part i)) (reads-on l b e (reads-part (l ++ (b ∷ [])) i)))
 
-  pub silent-part : (l : Line) (i : List ℕ) → output (within s l) (line-part i) ≡ []
-  unfolding output
-  silent-part l [] = rw end-nil
-  silent-part l (b ∷ i) =
+  -- a newline that is there ends the line
+  pub reads-line : (l : Line) (i : List ℕ) → line-end i < length i
+      → let o = step s (l ++ line-part i) in Reads room (within s l) (suc (line-end i)) i (room - length (printed (o .answer))) (within (o .state) []) (printed (o .answer))
+  unfolding line-end place
+  reads-line l [] there = absurd (omega arith)
+  reads-line l (b ∷ i) there =
       either (eqb b newline)
-      (λ e. rw (end-hit b i e))
-      (λ e. rw (end-miss b i e, output-cons, goes-on s l b e, goes-on-silent s l b e) (silent-part (l ++ (b ∷ [])) i))
-
--- ---- with room for an answer all of it is taken
-pub takes-cons : (room : ℕ) (r : Reading) (b : ℕ) (i : List ℕ) → answer-room ≤ room → takes room r (b ∷ i) ≡ suc (takes (room - length (byte-output r b)) (read-byte r b) i)
-unfolding takes
-takes-cons room r b i h = rw (le-leb answer-room room h)
-
-pub takes-nil : (room : ℕ) (r : Reading) → takes room r [] ≡ 0
-unfolding takes
-takes-nil room r = refl
+      (λ e. rw (e, append-nil) (rw append-nil at (reads-byte h (ends-state s l b e) (ends-output s l b e) refl (reads-none _ _ i))))
+      (λ e. let f = rw e at there in rw (e, ← append-assoc l (b ∷ []) (line-part i)) (reads-on l b e (reads-line (l ++ (b ∷ [])) i (omega arith))))
 
 pub takes-none : (room : ℕ) (r : Reading) (i : List ℕ) → room < answer-room → takes room r i ≡ 0
 unfolding takes
 takes-none room r [] h = refl
 takes-none room r (b ∷ i) h = rw (lt-leb answer-room room h)
-
-module _ (s : parts.State) (room : ℕ) (h : answer-room ≤ room) where
-  pub takes-part : (l : Line) (i : List ℕ) → takes room (within s l) i ≡ line-end i + takes room (within s (l ++ line-part i)) (drop (line-end i) i)
-  takes-part l [] = rw (end-nil, append-nil) (omega arith)
-  takes-part l (b ∷ i) =
-      either (eqb b newline)
-      (λ e. rw (end-hit b i e, append-nil) (omega arith))
-      (λ e.
-      let z : room - 0 ≡ room = omega arith in
-      let more = takes-part (l ++ (b ∷ [])) i in
-      rw (end-miss b i e, takes-cons room (within s l) b i h, goes-on s l b e, goes-on-silent s l b e, z, ← append-assoc l (b ∷ []) (line-part i)) (omega arith))
-
--- ---- a newline that is there ends the line
-newline-there : (i : List ℕ) → line-end i < length i → getD i (line-end i) 0 ≡ newline
-newline-there [] h = absurd (omega arith)
-newline-there (b ∷ i) h =
-    either (eqb b newline)
-    (λ e. rw (end-hit b i e) (eqb-true b newline e))
-    (λ e. rw (end-miss b i e) (newline-there i (let f = rw (end-miss b i e) at h in omega arith)))
-
-module _ (i : List ℕ) (there : line-end i < length i) where
-  at-newline : drop (line-end i) i ≡ newline ∷ drop (suc (line-end i)) i
-  at-newline = drop-cons i (line-end i) 0 there ∙ rw (newline-there i there)
-
-  with-newline : take (suc (line-end i)) i ≡ line-part i ++ (newline ∷ [])
-  with-newline = take-suc i (line-end i) 0 there ∙ rw (newline-there i there)
-
-  module _ (s : parts.State) (l : Line) where
-    pub read-line : read-all (within s l) (take (suc (line-end i)) i) ≡ within (step s (l ++ line-part i) .state) []
-    read-line = rw (with-newline, read-append, read-part, read-one) (ends-state s (l ++ line-part i) newline refl)
-
-    pub line-output : output (within s l) (take (suc (line-end i)) i) ≡ printed (step s (l ++ line-part i) .answer)
-    line-output = rw (with-newline, output-append, silent-part, read-part, output-one) (ends-output s (l ++ line-part i) newline refl)
-
-    pub takes-line : (room : ℕ) → answer-room ≤ room → takes room (within s l) i ≡ suc (line-end i) + takes (room - length (printed (step s (l ++ line-part i) .answer))) (within (step s (l ++ line-part i) .state) []) (drop (suc (line-end i)) i)
-    takes-line room h =
-        takes-part s room h l i
-        ∙ rw (at-newline, takes-cons room (within s (l ++ line-part i)) newline (drop (suc (line-end i)) i) h, ends-output s (l ++ line-part i) newline refl, ends-state s (l ++ line-part i) newline refl) (omega arith)

@@ -2,32 +2,11 @@
 use Rattle.lists.specs.Basics.{true, false, cond, List, [], _∷_, _++_, append-assoc, append-nil, _≡_, refl, sym, ap, _∙_, ℕ, zero, suc, arith, eqb, length, take, length-take}
 use Rattle.lists.specs.Basics.{take-all, take-nil, inl, inr}
 use Rattle.lists.specs.Tests.{either, lt?}
-use Rattle.protocol.specs.{Frames.Line, Lines.{newline, extend, lines, line, print}, Step.{step, answers-from, answers}}
+use Rattle.protocol.specs.{Parts.{State, start}, Frames.Line, Lines.{newline, extend, lines, line, print}, Step.{step, answers-from, answers}}
 use Rattle.engine.specs.LongLine.{long-line}
 use Rattle.transcript.specs.Reading.{Reading, line-room, within, beginning, printed, read-byte, byte-output, read-all, output, is-empty, last-output}
-use Rattle.protocol.specs.Parts as parts
 
 -- ---- pieces
-pub read-cons : (r : Reading) (b : ℕ) (i : List ℕ) → read-all r (b ∷ i) ≡ read-all (read-byte r b) i
-unfolding read-all
-read-cons r b i = refl
-
-pub output-nil : (r : Reading) → output r [] ≡ []
-unfolding output
-output-nil r = refl
-
-pub output-cons : (r : Reading) (b : ℕ) (i : List ℕ) → output r (b ∷ i) ≡ byte-output r b ++ output (read-byte r b) i
-unfolding output
-output-cons r b i = refl
-
-pub read-one : (r : Reading) (b : ℕ) → read-all r (b ∷ []) ≡ read-byte r b
-unfolding read-all
-read-one r b = refl
-
-pub output-one : (r : Reading) (b : ℕ) → output r (b ∷ []) ≡ byte-output r b
-unfolding output
-output-one r b = append-nil (byte-output r b)
-
 pub read-append : (r : Reading) (a b : List ℕ) → read-all r (a ++ b) ≡ read-all (read-all r a) b
 unfolding read-all
 read-append r [] b = refl
@@ -36,37 +15,32 @@ read-append r (x ∷ a) b = read-append (read-byte r x) a b
 pub output-append : (r : Reading) (a b : List ℕ) → output r (a ++ b) ≡ output r a ++ output (read-all r a) b
 unfolding read-all output
 output-append r [] b = refl
-output-append r (x ∷ a) b = ap (byte-output r x ++_) (output-append (read-byte r x) a b) ∙ sym (append-assoc (byte-output r x) (output (read-byte r x) a) (output (read-all (read-byte r x) a) b))
+output-append r (x ∷ a) b = rw append-assoc (ap (byte-output r x ++_) (output-append (read-byte r x) a b))
 
--- ---- the lines of an input of which l was read before
-unfoldable pub continued : Line → List ℕ → List Line
+-- ---- the lines of an input of which l was read before; ls are those of the rest
+unfoldable pub continued : Line → List Line → List Line
 continued l [] = cond (is-empty l) [] (l ∷ [])
-continued l (b ∷ i) = cond (eqb b newline) (l ∷ continued [] i) (continued (l ++ (b ∷ [])) i)
+continued l (x ∷ ls) = (l ++ x) ∷ ls
 
-prepend : Line → List Line → List Line
-prepend l [] = cond (is-empty l) [] (l ∷ [])
-prepend l (x ∷ ls) = (l ++ x) ∷ ls
+pub continued-nothing : (ls : List Line) → continued [] ls ≡ ls
+unfolding continued is-empty
+continued-nothing [] = refl
+continued-nothing (x ∷ ls) = refl
 
-prepend-nothing : (ls : List Line) → prepend [] ls ≡ ls
-unfolding prepend is-empty
-prepend-nothing [] = refl
-prepend-nothing (x ∷ ls) = refl
+continued-extend : (l : Line) (b : ℕ) (ls : List Line) → continued l (extend b ls) ≡ continued (l ++ (b ∷ [])) ls
+unfolding continued extend is-empty
+continued-extend [] b [] = refl
+continued-extend (x ∷ l) b [] = refl
+continued-extend l b (y ∷ ls) = ap (_∷ ls) (sym (append-assoc l (b ∷ []) y))
 
-prepend-extend : (l : Line) (b : ℕ) (ls : List Line) → prepend (l ++ (b ∷ [])) ls ≡ prepend l (extend b ls)
-unfolding prepend extend is-empty
-prepend-extend [] b [] = refl
-prepend-extend (x ∷ l) b [] = refl
-prepend-extend l b (y ∷ ls) = ap (_∷ ls) (append-assoc l (b ∷ []) y)
+module _ (l : Line) (b : ℕ) (i : List ℕ) where
+  pub continued-hit : eqb b newline ≡ true → continued l (lines (b ∷ i)) ≡ l ∷ continued [] (lines i)
+  unfolding lines
+  continued-hit e = rw (e, continued-nothing) (unfold continued in rw append-nil)
 
-continued-lines : (l : Line) (i : List ℕ) → continued l i ≡ prepend l (lines i)
-unfolding continued lines prepend
-continued-lines l [] = refl
-continued-lines l (b ∷ i) = either (eqb b newline)
-    (λ e. rw (e, append-nil) (ap (l ∷_) (continued-lines [] i ∙ prepend-nothing (lines i))))
-    (λ e. rw (e, continued-lines (l ++ (b ∷ [])) i) (prepend-extend l b (lines i)))
-
-pub lines-continued : (i : List ℕ) → lines i ≡ continued [] i
-lines-continued i = sym (continued-lines [] i ∙ prepend-nothing (lines i))
+  pub continued-miss : eqb b newline ≡ false → continued l (lines (b ∷ i)) ≡ continued (l ++ (b ∷ [])) (lines i)
+  unfolding lines
+  continued-miss e = rw e (continued-extend l b (lines i))
 
 -- ---- the bytes that are kept of a line stand for the line
 pub take-more : {A : Type 0} (n : ℕ) (a p : List A) → take n (take n a ++ p) ≡ take n (a ++ p)
@@ -74,19 +48,19 @@ take-more zero a p = refl
 take-more (suc n) [] p = refl
 take-more (suc n) (x ∷ a) p = ap (x ∷_) (take-more n a p)
 
-pub kept-step : (s : parts.State) (l : Line) → step s (take line-room l) ≡ step s l
+pub kept-step : (s : State) (l : Line) → step s (take line-room l) ≡ step s l
 kept-step s l = elim (lt? line-room (length l)) [
   | inl h ↦ long-line s (take line-room l) (unfold line-room in omega (arith, length-take line-room l)) ∙ sym (long-line s l (unfold line-room in omega arith))
   | inr h ↦ ap (step s) (take-all line-room l h)
 ]
 
-pub kept-empty : (s : parts.State) (l : Line) → is-empty (within s l .line) ≡ is-empty l
+pub kept-empty : (s : State) (l : Line) → is-empty (within s l .line) ≡ is-empty l
 unfolding within is-empty line-room
 kept-empty s [] = refl
 kept-empty s (x ∷ l) = refl
 
 -- ---- a byte more
-module _ (s : parts.State) (l : Line) (b : ℕ) where
+module _ (s : State) (l : Line) (b : ℕ) where
   pub ends-state : eqb b newline ≡ true → read-byte (within s l) b ≡ within (step s l .state) []
   unfolding within read-byte
   ends-state e = rw (e, kept-step) (λ i. record { state = step s l .state; line = sym (take-nil line-room) i })
@@ -103,22 +77,16 @@ module _ (s : parts.State) (l : Line) (b : ℕ) where
   unfolding byte-output
   goes-on-silent e = rw e
 
--- ---- at the end
-pub ending : (s : parts.State) (l : Line) → last-output (within s l) ≡ cond (is-empty l) [] (printed (step s l .answer))
-unfolding last-output
-ending s l = rw (ends-output s l newline refl, kept-empty s l)
-
 -- ---- the whole: what is printed on the way and at the end
-transcribes : (s : parts.State) (l : Line) (i : List ℕ) → output (within s l) i ++ last-output (read-all (within s l) i) ≡ print (answers-from s (continued l i))
-unfolding output read-all continued answers-from print printed
-transcribes s l [] = rw ending (either (is-empty l) (λ e. rw e) (λ e. rw e))
+transcribes : (s : State) (l : Line) (i : List ℕ) → output (within s l) i ++ last-output (read-all (within s l) i) ≡ print (answers-from s (continued l (lines i)))
+unfolding output read-all answers-from print printed
+transcribes s l [] = unfold last-output continued lines in rw (ends-output s l newline refl, kept-empty s l) (either (is-empty l) (λ e. rw e) (λ e. rw e))
 transcribes s l (b ∷ i) =
     either (eqb b newline)
-    (λ e. rw (e, ends-output s l b, ends-state s l b)
-    (append-assoc (printed (step s l .answer)) (output (within (step s l .state) []) i) _
-    ∙ rw (transcribes (step s l .state) [] i) (append-assoc (line (step s l .answer)) (newline ∷ []) _)))
-    (λ e. rw (e, goes-on-silent s l b, goes-on s l b) (transcribes s (l ++ (b ∷ [])) i))
+    (λ e. rw (ends-output s l b e, ends-state s l b e, continued-hit l b i e)
+    (simp append-assoc (ap (λ k. line (step s l .answer) ++ (newline ∷ k)) (transcribes (step s l .state) [] i))))
+    (λ e. rw (goes-on-silent s l b e, goes-on s l b e, continued-miss l b i e) (transcribes s (l ++ (b ∷ [])) i))
 
 pub reads-transcript : (i : List ℕ) → output beginning i ++ last-output (read-all beginning i) ≡ answers i
 unfolding beginning answers
-reads-transcript i = transcribes parts.start [] i ∙ rw lines-continued
+reads-transcript i = transcribes start [] i ∙ rw continued-nothing

@@ -25,9 +25,6 @@ module _ (n : ℕ) (b : List ℕ) (a : Answer) (long : length b ≡ 16) (same : 
   unfolding printed
   printed-count = let e : length (take n b) ≡ length (printed a) = ap length same in omega (arith, length-take n b, printed-fits a)
 
-  pub printed-small : n ≤ answer-room
-  printed-small = omega (arith, printed-count, printed-fits a)
-
   pub printed-copied : (out : List ℕ) (at i : ℕ) (r : List ℕ) → i ≡ n → Copied out at b i r → r ≡ put-at out at (printed a)
   unfolding printed
   printed-copied out at i r e c = c .same ∙ rw (e, same) (ap (λ k. take at out ++ printed a ++ drop (at + k) out) printed-count)

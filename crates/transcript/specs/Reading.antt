@@ -1,7 +1,6 @@
 -- A reader that is fed byte by byte: the state, and what it has of the line under way.
 use Rattle.lists.specs.Basics.{Bool, true, false, cond, _||_, List, [], _∷_, _++_, ℕ, suc, _-_, eqb, leb, length, take}
-use Rattle.protocol.specs.{declared.Answer.Answer, Frames.Line, Lines.{newline, line}, Step.step}
-use Rattle.protocol.specs.Parts as parts
+use Rattle.protocol.specs.{Parts.{State, start}, declared.Answer.Answer, Frames.Line, Lines.{newline, line}, Step.step}
 
 -- One more than the longest frame has digits: of a longer line the first bytes are kept, which are no frame either.
 abbrev pub LINE : ℕ
@@ -15,15 +14,15 @@ abbrev pub answer-room : ℕ
 answer-room = 15
 
 pub record Reading : Type 0 where
-  pub state : parts.State
+  pub state : State
   pub line : Line
 
 -- a reader that has read l of the line under way
-unfoldable pub within : parts.State → Line → Reading
+unfoldable pub within : State → Line → Reading
 within s l = record { state = s; line = take line-room l }
 
 unfoldable pub beginning : Reading
-beginning = within parts.start []
+beginning = within start []
 
 -- an answer's line, with its newline
 unfoldable pub printed : Answer → List ℕ
@@ -65,5 +64,5 @@ unfoldable pub finishes : ℕ → Reading → Bool
 finishes room r = is-empty (r .line) || leb answer-room room
 
 -- the state then: the last line is played where there is room for its answer
-unfoldable pub end-state : ℕ → Reading → parts.State
+unfoldable pub end-state : ℕ → Reading → State
 end-state room r = cond (is-empty (r .line)) (r .state) (cond (leb answer-room room) (step (r .state) (r .line) .state) (r .state))

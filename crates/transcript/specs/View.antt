@@ -1,11 +1,10 @@
 -- A store and a line under way as a reader of the definitions, and what the exported functions yield.
-use Rattle.lists.specs.Basics.{Bool, true, cond, _&&_, List, [], _++_, _≡_, sym, ap, subst, _∙_, ℕ, _-_, arith, eqb, length, take, drop, replicate}
+use Rattle.lists.specs.Basics.{Bool, true, cond, _&&_, List, [], _++_, _≡_, sym, ap, _∙_, ℕ, _-_, eqb, length, take, drop, replicate}
 use Rattle.store.specs.{Places.STORE, View.view}
 use Rattle.opening.specs.Zeros.{zeros-start}
-use Rattle.transcript.specs.{Reading.{Reading, LINE, answer-room, within, beginning, read-all, output, last-output, takes, finishes, end-state}, Pieces.read-append}
-use Rattle.transcript.specs.{Feeding.Fed-so-far, Demand.{After, after, finished, finished-state, ended-state, enough-end}, declared.Fed.Fed, declared.Ended.Ended}
+use Rattle.transcript.specs.{Reading.{Reading, LINE, within, beginning, read-all, output, last-output, takes, finishes, end-state}, Pieces.read-append}
+use Rattle.transcript.specs.{Feeding.Fed-so-far, Demand.{After, after, finished, finished-state}, declared.Fed.Fed, declared.Ended.Ended}
 use Rattle.protocol.specs.{Lines.lines, Step.answers}
-use Rattle.protocol.specs.Parts as parts
 
 -- a store that has read n bytes of the line under way
 unfoldable pub reading : List ℕ → List ℕ → ℕ → Reading
@@ -26,22 +25,20 @@ pub record Feeding (r : Reading) (input room : List ℕ) (f : Fed) (s line out :
   -- whatever pieces came before: the state of the finished lines, and demand 3 of it
   pub demand : (before : List ℕ) → r ≡ read-all beginning before → After (finished (before ++ take (f .taken) input)) (view s)
 
-fed-demand : (r now : Reading) (piece : List ℕ) → now ≡ read-all r piece → (before : List ℕ) → r ≡ read-all beginning before → After (finished (before ++ piece)) (now .state)
-fed-demand r now piece d before e =
-    let g : now ≡ read-all beginning (before ++ piece) = d ∙ ap (λ q. read-all q piece) e ∙ sym (read-append beginning before piece) in
-    after (finished (before ++ piece)) (now .state) (ap (λ (x : Reading). x .state) g ∙ finished-state (before ++ piece))
-
-pub fed : (q r : Reading) → q ≡ r → (input room s : List ℕ) (len : ℕ) (line : List ℕ) (t w : ℕ) (out : List ℕ) → Fed-so-far q input room (within (view s) (take len line)) t w out → t ≡ takes (length room) q input
-    → Feeding r input room (record { len = len; taken = t; written = w }) s line out
-unfolding reading
+pub fed : (q r : Reading) → q ≡ r → (input room s : List ℕ) (len : ℕ) (line : List ℕ) (t w : ℕ) (out : List ℕ) → Fed-so-far q input room (within (view s) (take len line)) t w out
+    → t ≡ takes (length room) q input → Feeding r input room (record { len = len; taken = t; written = w }) s line out
+unfolding reading within
 fed q r e input room s len line t w out inv f =
-    subst (λ r. Feeding r input room (record { len = len; taken = t; written = w }) s line out) e
-    (record { taken = f; reader = inv .reader; written = inv .written; bytes = inv .bytes; demand = unfold within in fed-demand q (within (view s) (take len line)) (take t input) (inv .reader) })
-
-pub ended-demand : (r : Reading) (room : ℕ) (s : parts.State) (ok : Bool) → ok ≡ finishes room r → s ≡ end-state room r → ok ≡ true → (before : List ℕ) → r ≡ read-all beginning before → After (lines before) s
-unfolding finishes
-ended-demand r room s ok f e d before g =
-    after (lines before) s (e ∙ enough-end room r (sym f ∙ d) ∙ ap (end-state answer-room) g ∙ ended-state answer-room (omega arith) before)
+    let reader = inv .reads .reader in
+    rw (← e) (record {
+      taken = f;
+      reader = sym reader;
+      written = rw (inv .reads .prints) (inv .written);
+      bytes = rw (inv .reads .prints) (inv .bytes);
+      demand = λ before g.
+          let all : within (view s) (take len line) ≡ read-all beginning (before ++ take t input) = sym reader ∙ rw (g, read-append beginning before) in
+          after (finished (before ++ take t input)) (view s) (ap (λ (x : Reading). x .state) all ∙ finished-state (before ++ take t input));
+    })
 
 -- what is printed at the end, where there is room for it; else nothing
 unfoldable pub end-output : ℕ → Reading → List ℕ

@@ -1,8 +1,8 @@
 -- `feed_on`: the invariant is that what was taken so far is read, and its answers written.
-use Rattle.lists.specs.Basics.{_++_, _≡_, sym, ap, _∙_, _+_, _-_, _≤_, _<_, arith, needs, length, take, drop, length-drop, length-take-le}
+use Rattle.lists.specs.Basics.{_++_, _≡_, sym, ap, _∙_, _+_, _-_, _≤_, _<_, arith, needs, length, take, drop, length-drop, length-take-le, take-all}
 use Rattle.store.specs.{Places.STORE, View.{view, outcome}}
-use Rattle.transcript.specs.{Reading.{LINE, line-room, within}, LineWise.{line-end, line-end-le, line-end-rest, line-part}, Copies.take-min, Printed.printed-fits}
-use Rattle.transcript.specs.{Feeding.{Fed-so-far, nothing-yet, fed-turn, fed-stop, at-end, no-room, kept-part}, View.{reading, fed}}
+use Rattle.transcript.specs.{Reading.{LINE, line-room, within}, LineWise.{line-end, line-end-le, line-part}, Copies.take-min, Printed.printed-fits}
+use Rattle.transcript.specs.{Feeding.{Fed-so-far, nothing-yet, fed-turn, fed-stop, at-end, no-room}, View.{reading, fed}}
 use Rattle.transcript.proofs.feed_on.Statement.{statement}
 use Rattle.transcript.proofs.feed_on.Tie as tie
 
@@ -30,7 +30,8 @@ opened c = let a = start c .args in ap (within (view (a .s .now))) (ap (λ k. ta
 
 -- the next newline, or the end of the input
 found : (c : at tie.After-line-end) → let p = c .before .before .before in c .line-end .result ≡ line-end (drop (p .loop .taken) (start p .args .input .now))
-found c = let p = c .before .before .before in line-end-rest (p .loop .taken) (start p .args .input .now) (c .line-end .result) (c .line-end .ensures)
+found c = let p = c .before .before .before in let i = start p .args .input .now in
+    c .line-end .ensures ∙ ap line-end (take-all (length i - p .loop .taken) (drop (p .loop .taken) i) (omega (arith, length-drop (p .loop .taken) i)))
 
 is-end : (c : at tie.After-line-end) → let p = c .before .before .before in p .loop .taken + c .line-end .result ≡ p .loop .taken + line-end (drop (p .loop .taken) (start p .args .input .now))
 is-end c = ap (c .before .before .before .loop .taken +_) (found c)
@@ -45,11 +46,13 @@ there c =
 -- what is kept of the line
 kept : (c : at tie.After-keep) → let p = c .before .before .before .before .before .before in
     take (c .keep .result) (c .keep .last .0) ≡ take line-room (take (p .loop .len) (p .loop .line) ++ line-part (drop (p .loop .taken) (start p .args .input .now)))
+unfolding line-room
 kept c =
     let e = c .before .before .before in
     let p = e .before .before .before in
     let l = p .loop in
-    kept-part (length (l .line)) (take (l .len) (l .line)) (l .taken) (e .line-end .result) (start p .args .input .now) _ (l .inv .1) (found e) (c .keep .ensures .1)
+    let n : l .taken + e .line-end .result - l .taken ≡ line-end (drop (l .taken) (start p .args .input .now)) = omega (arith, found e) in
+    c .keep .ensures .1 ∙ rw (l .inv .1, n)
 
 kept-long : (c : at tie.After-keep) → length (c .keep .last .0) ≡ LINE
 kept-long c = c .keep .kept .0 ∙ c .before .before .before .before .before .before .loop .inv .1

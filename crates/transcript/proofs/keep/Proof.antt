@@ -1,6 +1,6 @@
 -- `keep` puts a piece behind the bytes of a line, as far as there is room. The invariant: i bytes are copied.
-use Rattle.lists.specs.Basics.{_≡_, ap, _∙_, _+_, _-_, _≤_, arith, needs, take, paste}
-use Rattle.transcript.specs.Copies.{Copied, copy-none, copy-one, kept-piece}
+use Rattle.lists.specs.Basics.{_≡_, refl, ap, _∙_, _+_, _-_, _≤_, arith, needs, take, paste, paste-zero}
+use Rattle.transcript.specs.Copies.{Copied, copy-one, kept-piece}
 use Rattle.transcript.proofs.keep.Statement.{statement}
 use Rattle.transcript.proofs.keep.Tie as tie
 
@@ -11,7 +11,7 @@ abbrev μ-loop : tie.MeasureT-loop
 μ-loop line₀ n piece k i₀ line i = k - i
 
 loop-holds : tie.Need-loop-holds Inv-loop μ-loop
-loop-holds c = let a = c .before .before .before .args in (search needs, copy-none (a .line .now) (a .n) (a .piece .now))
+loop-holds c = let a = c .before .before .before .args in (search needs, record { long = refl; same = paste-zero (a .line .now) (a .n) (a .piece .now) })
 
 loop-again : tie.Need-loop-again Inv-loop μ-loop
 loop-again c = let a = c .before .before .before .before .before .before .args in (search needs, copy-one (a .line .now) (a .n) (a .piece .now) (c .before .before .loop .i) _ 0 (c .before .before .loop .inv .1) (search needs) (search needs))

@@ -1,6 +1,6 @@
 -- `put` writes the line of an answer. The invariant: i bytes are copied, of at most 15.
-use Rattle.lists.specs.Basics.{_≡_, _-_, _≤_, arith, needs, length}
-use Rattle.transcript.specs.{Copies.{Copied, copy-none, copy-one}, Printed.{printed-count, printed-small, printed-copied}}
+use Rattle.lists.specs.Basics.{_≡_, refl, _-_, _≤_, arith, needs, length, paste-zero}
+use Rattle.transcript.specs.{Copies.{Copied, copy-one}, Printed.{printed-fits, printed-count, printed-copied}}
 use Rattle.transcript.proofs.put.Statement.{statement}
 use Rattle.transcript.proofs.put.Tie as tie
 
@@ -15,7 +15,7 @@ loop-holds c =
     let a = c .before .before .before .before .args in
     let p = c .before .before .print in
     let size : length (p .result .bytes) ≡ 16 = search needs in
-    (search needs, printed-small (p .result .len) (p .result .bytes) (a .answer) size (p .ensures), size, copy-none (a .out .now) (a .at) (p .result .bytes))
+    (search needs, omega (arith, printed-count (p .result .len) (p .result .bytes) (a .answer) size (p .ensures), printed-fits (a .answer)), size, record { long = refl; same = paste-zero (a .out .now) (a .at) (p .result .bytes) })
 
 loop-again : tie.Need-loop-again Inv-loop μ-loop
 loop-again c =

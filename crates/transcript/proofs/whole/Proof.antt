@@ -36,7 +36,7 @@ returns-2 c =
     let e = c .before .before .before in
     let x = e .before .before .before .before in
     let f = x .before .before .before .before in
-    whole-long _ _ _ _ _ _ (fed f) (x .if1 .left) (fed-within f) _ _ _ (e .finish .ensures)
+    whole-long _ _ _ _ _ _ (fed f) (x .if1 .left) _ _ _ (e .finish .ensures)
 
 pub whole-spec : {M : Type 1} → statement M
 whole-spec =
