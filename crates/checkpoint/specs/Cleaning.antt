@@ -22,8 +22,8 @@ module _ (xs : List ℕ) (limit : ℕ → ℕ) (k : ℕ) (ys : List ℕ) (inv : 
     pub clean-miss : runs (status-of ys) q ≡ false → view ys ≡ cleaned-to limit (view xs) (k + 1)
     clean-miss e = inv ∙ ap (with-live (view xs)) (visit-miss _ _ _ k (up-same ∙ e))
 
-    pub clean-hit : runs (status-of ys) q ≡ true → length ys ≡ STORE → k < 13 → (m : List ℕ) → length m ≡ MEMORY → memory-view m ≡ cleaned limit (memory-view (part (live-from k) MEMORY ys))
-        → view (put (live-from k) MEMORY ys m) ≡ cleaned-to limit (view xs) (k + 1)
+    pub clean-hit : runs (status-of ys) q ≡ true → length ys ≡ STORE → k < 13 → (m : List ℕ) → length m ≡ MEMORY
+        → memory-view m ≡ cleaned limit (memory-view (part (live-from k) MEMORY ys)) → view (put (live-from k) MEMORY ys m) ≡ cleaned-to limit (view xs) (k + 1)
     clean-hit e size h m long is-m =
         live-changed ys size k h m long (cleaned limit) is-m
         ∙ rw inv (ap (with-live (view xs)) (visit-hit _ _ _ k (up-same ∙ e) _ (ap (cleaned limit) (visit-here _ _ _ k))))

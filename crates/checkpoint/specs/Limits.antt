@@ -14,7 +14,8 @@ abbrev pub limits-to : State → ℕ → ℕ → ℕ → ℕ
 limits-to s p = visited (on (s .job) p) (λ c. s .live c .height) (λ _. 0)
 
 module _ (xs : List ℕ) (p k : ℕ) (r : List ℕ) (inv : as-map 0 r ≡ limits-to (view xs) p k) where
-  pub limits-hit : on (job-of xs) p k ≡ true → k < 13 → length r ≡ 13 → (h : ℕ) → h ≡ memory-view (part (live-from k) MEMORY xs) .height → as-map 0 (set r k h) ≡ limits-to (view xs) p (k + 1)
+  pub limits-hit : on (job-of xs) p k ≡ true → k < 13 → length r ≡ 13 → (h : ℕ) → h ≡ memory-view (part (live-from k) MEMORY xs) .height
+      → as-map 0 (set r k h) ≡ limits-to (view xs) p (k + 1)
   unfolding view
   limits-hit e low long h q = map-set 0 r k h (rw long low) ∙ ap (upd k h) inv ∙ visit-hit _ _ _ k e h (q ∙ ap (λ (m : Memory). m .height) (sym (live-at xs k low)))
 

@@ -31,10 +31,13 @@ crash-is xs p t u v w size h is-t is-u is-v is-w = is-w ∙ rw (is-v, is-u, is-t
 
 -- n is what the questions find, b whether it has cover
 module _ (xs : List ℕ) (p n : ℕ) (e : n ≡ first-no 2 (crash-questions (view xs) p)) (z : n ≡ 0) (b : Bool) (is-b : b ≡ has-cover (view xs) p) where
-  pub covered : b ≡ true → (ys : List ℕ) → view ys ≡ crash (view xs) p → Framed xs ys Accepted (judged (view xs) (asks 2 (crash-questions (view xs) p) (crash-tried (view xs) p (has-cover (view xs) p))))
+  abbrev the-outcome : Outcome
+  the-outcome = judged (view xs) (asks 2 (crash-questions (view xs) p) (crash-tried (view xs) p (has-cover (view xs) p)))
+
+  pub covered : b ≡ true → (ys : List ℕ) → view ys ≡ crash (view xs) p → Framed xs ys Accepted the-outcome
   unfolding tried crash-tried
   covered c ys q = rw (← is-b, c) (accepted xs _ n e ys (crash (view xs) p) z q)
 
-  pub uncovered : b ≡ false → length xs ≡ STORE → Framed xs (set xs LOST 1) Lost (judged (view xs) (asks 2 (crash-questions (view xs) p) (crash-tried (view xs) p (has-cover (view xs) p))))
+  pub uncovered : b ≡ false → length xs ≡ STORE → Framed xs (set xs LOST 1) Lost the-outcome
   unfolding outcome crash-tried
   uncovered c size = answered xs _ n e (set xs LOST 1) Lost _ (λ m y. absurd (let y : _≡_ {A = ℕ} 0 1 = cc in omega arith)) z (rw (← is-b, c, lost-set xs size 1))

@@ -34,4 +34,5 @@ module _ (xs : List ℕ) (c n : ℕ) (is-n : n ≡ first-no 2 (chare-asked (job-
     module _ (height state : ℕ) (is-height : height ≡ memory-view (part (live-from c) MEMORY xs) .height) (is-state : state ≡ memory-view (part (live-from c) MEMORY xs) .state) where
       pub show-done : outcome xs (Shown height state) ≡ the-outcome
       unfolding outcome shown
-      show-done = answered xs _ n asked xs (Shown height state) (shown (view xs) c) (λ m y. absurd (let y : _≡_ {A = ℕ} 0 1 = cc in omega arith)) z (rw (is-height, is-state, ← live-at xs c chare-in)) .gives
+      show-done = answered xs _ n asked xs (Shown height state) (shown (view xs) c) (λ m y. absurd (let y : _≡_ {A = ℕ} 0 1 = cc in omega arith)) z
+          (rw (is-height, is-state, ← live-at xs c chare-in)) .gives

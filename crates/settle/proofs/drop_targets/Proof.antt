@@ -19,7 +19,8 @@ loop-holds c =
 loop-again : tie.Need-loop-again Inv-loop μ-loop
 loop-again c =
     let l = c .before .before .before .before .before in
-    (search needs, search needs, search needs, c .before .before .drop-target .ensures ∙ ap (λ v. dropped v (l .before .before .args .p) (l .loop .c)) (l .loop .inv .3) ∙ dropped-more _ _ (l .loop .c))
+    let p = l .before .before .args .p in
+    (search needs, search needs, search needs, c .before .before .drop-target .ensures ∙ ap (λ v. dropped v p (l .loop .c)) (l .loop .inv .3) ∙ dropped-more _ _ (l .loop .c))
 
 returns : tie.Need-returns Inv-loop μ-loop
 returns c =
