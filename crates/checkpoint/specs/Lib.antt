@@ -1,7 +1,5 @@
 -- What the contracts of checkpoint say, and the laws behind them.
 pub mod Parts
-pub mod Rows
 pub mod Fixing
 pub mod Limits
 pub mod Cleaning
-pub mod Whole

@@ -1,12 +1,12 @@
--- The parts of a crash, put together, are the definition's; its questions as the code puts them; and what the frame leaves.
-use Rattle.lists.specs.Basics.{_≡_, refl, ap, _∙_, Bool, true, false, not, List, [], _∷_, ℕ, _+_, _<_, _≤_, arith, length, set}
+-- The parts of a crash, put together, are the definition's; and what the frame leaves.
+use Rattle.lists.specs.Basics.{_≡_, ap, _∙_, Bool, true, false, List, ℕ, _+_, _<_, arith, length, set}
 use Rattle.lists.specs.{Lists.keep, Questions.{first-no, asks}}
-use Rattle.protocol.specs.{declared.Answer.the-variants.{Accepted, Lost}, Frames.between, Parts.{State, up, with-lost, with-live, with-copies, with-wire}}
-use Rattle.protocol.specs.{Crash.{has-cover, survives, crash}, Questions.{crash-questions, is-machine}, Step.{Outcome, judged}}
+use Rattle.protocol.specs.{declared.Answer.the-variants.{Accepted, Lost}, Parts.{State, with-lost, with-live, with-copies, with-wire}}
+use Rattle.protocol.specs.{Crash.{has-cover, survives, crash}, Questions.crash-questions, Step.{Outcome, judged}}
 use Rattle.words.specs.Part.{part, put}
-use Rattle.head.specs.{Head.{HEAD, STATUS, LOST, job-of, lost-of, status-of, as-status, runs}, Kept.head-part}
+use Rattle.head.specs.{Head.{HEAD, STATUS, LOST, job-of, as-status}, Kept.head-part}
 use Rattle.packets.specs.Words.{packets}
-use Rattle.store.specs.{Places.{STORE, WIRE, PACKETS}, View.{view, outcome, Framed}, ViewLaws.{wire-put, status-set, lost-set}, Framing.{answered, machine-in}}
+use Rattle.store.specs.{Places.{STORE, WIRE, PACKETS}, View.{view, outcome, tried, Framed}, ViewLaws.{wire-put, status-set, lost-set}, Framing.{answered, accepted}}
 
 -- with cover, or without; machines settle later
 unfoldable pub crash-tried : State → ℕ → Bool → Outcome
@@ -29,23 +29,15 @@ pub crash-is : (xs : List ℕ) (p : ℕ) (t u v w : State) → length xs ≡ STO
 unfolding crash as-status
 crash-is xs p t u v w size h is-t is-u is-v is-w = is-w ∙ rw (is-v, is-u, is-t, status-set xs size 1 p h)
 
-module _ (xs : List ℕ) (p n : ℕ) where
-  pub asked : (set in-range lost u : Bool) → set ≡ job-of xs .set → in-range ≡ between 1 (job-of xs .machines) p → lost ≡ lost-of xs → u ≡ runs (status-of xs) p
-      → n ≡ first-no 2 (set ∷ in-range ∷ not lost ∷ u ∷ []) → n ≡ first-no 2 (crash-questions (view xs) p)
-  unfolding crash-questions is-machine view up runs
-  asked set in-range lost u is-set is-in is-lost is-u q = q ∙ rw (is-set, is-in, is-lost, is-u)
+-- n is what the questions find, b whether it has cover
+module _ (xs : List ℕ) (p n : ℕ) (e : n ≡ first-no 2 (crash-questions (view xs) p)) (z : n ≡ 0) (b : Bool) (is-b : b ≡ has-cover (view xs) p) where
+  abbrev the-outcome : Outcome
+  the-outcome = judged (view xs) (asks 2 (crash-questions (view xs) p) (crash-tried (view xs) p (has-cover (view xs) p)))
 
-  module _ (e : n ≡ first-no 2 (crash-questions (view xs) p)) (z : n ≡ 0) where
-    pub crash-in : (1 ≤ p) × (p ≤ 6)
-    unfolding crash-questions is-machine view
-    crash-in = machine-in xs p n _ _ _ _ e refl z
+  pub covered : b ≡ true → (ys : List ℕ) → view ys ≡ crash (view xs) p → Framed xs ys Accepted the-outcome
+  unfolding tried crash-tried
+  covered c ys q = rw (← is-b, c) (accepted xs _ n e ys (crash (view xs) p) z q)
 
-    -- b: whether it has cover
-    module _ (b : Bool) (is-b : b ≡ has-cover (view xs) p) where
-      pub covered : b ≡ true → (ys : List ℕ) → view ys ≡ crash (view xs) p → Framed xs ys Accepted (judged (view xs) (asks 2 (crash-questions (view xs) p) (crash-tried (view xs) p (has-cover (view xs) p))))
-      unfolding outcome crash-tried
-      covered c ys q = answered xs _ n e ys Accepted _ (λ m y. absurd (let y : _≡_ {A = ℕ} 0 1 = cc in omega arith)) z (rw (← is-b, c, q))
-
-      pub uncovered : b ≡ false → length xs ≡ STORE → Framed xs (set xs LOST 1) Lost (judged (view xs) (asks 2 (crash-questions (view xs) p) (crash-tried (view xs) p (has-cover (view xs) p))))
-      unfolding outcome crash-tried
-      uncovered c size = answered xs _ n e (set xs LOST 1) Lost _ (λ m y. absurd (let y : _≡_ {A = ℕ} 0 1 = cc in omega arith)) z (rw (← is-b, c, lost-set xs size 1))
+  pub uncovered : b ≡ false → length xs ≡ STORE → Framed xs (set xs LOST 1) Lost the-outcome
+  unfolding outcome crash-tried
+  uncovered c size = answered xs _ n e (set xs LOST 1) Lost _ (λ m y. absurd (let y : _≡_ {A = ℕ} 0 1 = cc in omega arith)) z (rw (← is-b, c, lost-set xs size 1))

@@ -1,13 +1,13 @@
 -- A packet that arrives, in the definitions' state: one memory or one note list changes, and an answer goes to the end of the wire.
-use Rattle.lists.specs.Basics.{_≡_, refl, sym, ap, Bool, true, false, List, [], _∷_, Option, some, none, ℕ}
-use Rattle.lists.specs.{Tests.either, Map.{upd, upd-self}, Lists.remove1}
-use Rattle.protocol.specs.{declared.Entry.Entry, declared.Note.Note, declared.Packet.Packet, declared.Content.Content}
+use Rattle.lists.specs.Basics.{_≡_, refl, sym, ap, _∙_, Bool, true, false, List, [], _∷_, Option, some, none, ℕ}
+use Rattle.lists.specs.{Tests.either, Map.{upd, upd-self}}
+use Rattle.protocol.specs.{declared.Entry.Entry, declared.Message.Message, declared.Note.Note, declared.Packet.Packet, declared.Content.Content}
 use Rattle.protocol.specs.{declared.Content.the-variants.{Ask as ASK, GrantOld as GRANT-old, GrantReceived as GRANT-received, GrantNew as GRANT-new, Data as DATA, Note as NOTE, Ack as ACK}}
-use Rattle.protocol.specs.{declared.Lookup.Lookup, declared.Lookup.the-variants.{Missing, Ticketed, Unticketed}, Parts.{State, with-live, with-memory, with-notes, with-log}}
-use Rattle.protocol.specs.{Packets.{kind, for-receiver, ticketed, is-worked, reply, new-table, new-log, ask, grant-old, grant-received, grant-new, data-in, note, note-of, ack, entry-of, lookup-of, arrive}}
+use Rattle.protocol.specs.{declared.Lookup.Lookup, declared.Lookup.the-variants.{Missing, Ticketed, Unticketed}, Parts.{State, with-live, with-memory, with-notes}}
+use Rattle.protocol.specs.{Packets.{kind, is-worked, reply, new-table, new-log, ask, grant-old, grant-received, grant-new, data-in, ack, entry-of, lookup-of, arrive}}
 use Rattle.protocol.specs.{Questions.{no-entry, is-new, ticket-fits, ticket-admitted, ticket-has-room}}
-use Rattle.deliver.specs.{Effect.{Effect, quiet, answering, grant-of, new-ticket, new-ticket-questions, no-questions, ask-effect, ask-questions, unticketed, grant-old-effect, grant-received-effect, grant-new-effect, data-effect, ack-effect, effect, effect-questions, place-of}}
-use Rattle.deliver.specs.{NoteEffect.{note-effect, note-questions}}
+use Rattle.deliver.specs.{Effect.{Effect, quiet, grant-of, new-ticket, new-ticket-questions, no-questions, ask-effect, ask-questions, unticketed}}
+use Rattle.deliver.specs.{Effect.{grant-old-effect, grant-received-effect, grant-new-effect, data-effect, ack-effect, effect, effect-questions, place-of}}
 
 unfoldable pub with-reply : State → Packet → Option Content → State
 with-reply s p none = s
@@ -21,66 +21,43 @@ put-effect s c p e = with-reply (with-memory s c (e .memory)) p (e .reply)
 unfoldable pub put-notes : State → ℕ → Packet → List Note → State
 put-notes s h p l = reply (with-notes s (upd h l (s .notes))) p ACK
 
--- ---- a memory that stays
-module _ (s : State) (c : ℕ) (p : Packet) where
-  same-memory : s ≡ with-memory s c (s .live c)
-  same-memory = sym (ap (with-live s) (upd-self c (s .live)))
-
-  put-quiet : s ≡ put-effect s c p (quiet (s .live c))
-  unfolding put-effect with-reply
-  put-quiet = same-memory
-
-  put-answer : (x : Content) → reply s p x ≡ put-effect s c p (answering (s .live c) x)
-  unfolding put-effect with-reply
-  put-answer x = ap (λ t. reply t p x) same-memory
+-- a memory that stays
+stays : (s : State) (c : ℕ) (p : Packet) (r : Option Content) → with-reply s p r ≡ put-effect s c p (record { memory = s .live c; reply = r })
+unfolding put-effect
+stays s c p r = ap (λ t. with-reply t p r) (sym (ap (with-live s) (upd-self c (s .live))))
 
 -- ---- each content
 module _ (s : State) (p : Packet) where
   asks-back : (o : Option Entry) (w : Bool) → ask s p o w ≡ put-effect s (p .receiver) p (ask-effect (s .live (p .receiver)) (p .sender) (p .sn) o w)
-  unfolding ask ask-effect grant-of
-  asks-back (some e) w = put-answer s (p .receiver) p _
-  asks-back none true = put-answer s (p .receiver) p _
-  asks-back none false = unfold new-ticket new-table put-effect with-reply in refl
+  unfolding ask ask-effect grant-of with-reply
+  asks-back (some e) w = stays s (p .receiver) p (some _)
+  asks-back none true = stays s (p .receiver) p (some _)
+  asks-back none false = unfold new-ticket new-table put-effect in refl
 
-  -- a GRANT: what it does to a message without a TN is given
-  old-back : (o : Lookup) → grant-old s p o ≡ put-effect s (p .sender) p (unticketed (quiet (s .live (p .sender))) (λ x. quiet (with-log (s .live (p .sender)) (remove1 (for-receiver (p .receiver) (p .sn)) (s .live (p .sender) .log)))) o)
-  unfolding grant-old unticketed
-  old-back Missing = put-quiet s (p .sender) p
-  old-back Ticketed = put-quiet s (p .sender) p
-  old-back (Unticketed x) = unfold new-log put-effect with-reply in refl
-
-  received-back : (t : ℕ) (o : Lookup) → grant-received s p t o ≡ put-effect s (p .sender) p (unticketed (quiet (s .live (p .sender))) (λ x. quiet (with-log (s .live (p .sender)) (ticketed (p .receiver) (p .sn) t (s .live (p .sender) .log)))) o)
-  unfolding grant-received unticketed
-  received-back t Missing = put-quiet s (p .sender) p
-  received-back t Ticketed = put-quiet s (p .sender) p
-  received-back t (Unticketed x) = unfold new-log put-effect with-reply in refl
-
-  new-back : (t : ℕ) (o : Lookup) → grant-new s p t o ≡ put-effect s (p .sender) p (unticketed (quiet (s .live (p .sender))) (λ x. answering (with-log (s .live (p .sender)) (ticketed (p .receiver) (p .sn) t (s .live (p .sender) .log))) (DATA (x .value) (x .hops))) o)
-  unfolding grant-new unticketed
-  new-back t Missing = put-quiet s (p .sender) p
-  new-back t Ticketed = put-quiet s (p .sender) p
-  new-back t (Unticketed x) = unfold grant-received new-log put-effect with-reply in refl
+  -- a GRANT: f is what it does with a message without a TN
+  grants-back : (g : Lookup → State) (f : Message → Effect) → g Missing ≡ s → g Ticketed ≡ s → ((x : Message) → g (Unticketed x) ≡ put-effect s (p .sender) p (f x))
+      → (o : Lookup) → g o ≡ put-effect s (p .sender) p (unticketed (quiet (s .live (p .sender))) f o)
+  unfolding unticketed with-reply
+  grants-back g f m t h Missing = m ∙ stays s (p .sender) p none
+  grants-back g f m t h Ticketed = t ∙ stays s (p .sender) p none
+  grants-back g f m t h (Unticketed x) = h x
 
   data-back : (v h : ℕ) (o : Option Entry) → data-in s p v h o ≡ put-effect s (p .receiver) p (data-effect (s .live (p .receiver)) (p .sender) (p .sn) v h o)
-  unfolding data-in data-effect
-  data-back v h none = put-quiet s (p .receiver) p
+  unfolding data-in data-effect with-reply
+  data-back v h none = stays s (p .receiver) p none
   data-back v h (some e) = either (e .received)
-      (λ q. rw q (put-quiet s (p .receiver) p))
-      (λ q. rw q (unfold new-table put-effect with-reply in refl))
+      (λ q. rw q (stays s (p .receiver) p none))
+      (λ q. rw q (unfold new-table put-effect in refl))
 
   pub arrive-back : (c : Content) → ((t : ℕ) → c ≡ NOTE t → ⊥) → arrive s p c ≡ put-effect s (place-of p c) p (effect (s .live (place-of p c)) p c)
-  unfolding arrive effect place-of kind entry-of lookup-of
+  unfolding arrive effect place-of kind entry-of lookup-of grant-old grant-received grant-new new-log grant-old-effect grant-received-effect grant-new-effect put-effect with-reply
   arrive-back ASK n = asks-back _ _
-  arrive-back GRANT-old n = unfold grant-old-effect in old-back _
-  arrive-back (GRANT-received t) n = unfold grant-received-effect in received-back t _
-  arrive-back (GRANT-new t) n = unfold grant-new-effect in new-back t _
+  arrive-back GRANT-old n = grants-back (grant-old s p) _ refl refl (λ x. refl) _
+  arrive-back (GRANT-received t) n = grants-back (grant-received s p t) _ refl refl (λ x. refl) _
+  arrive-back (GRANT-new t) n = grants-back (grant-new s p t) _ refl refl (λ x. refl) _
   arrive-back (DATA v h) n = data-back v h _
   arrive-back (NOTE t) n = absurd (n t refl)
-  arrive-back ACK n = unfold ack ack-effect new-table put-effect with-reply in refl
-
-  pub arrive-notes : (t : ℕ) → arrive s p (NOTE t) ≡ put-notes s (s .job .home (p .receiver)) p (note-effect (s .notes (s .job .home (p .receiver))) (note-of p t))
-  unfolding arrive note put-notes note-effect
-  arrive-notes t = refl
+  arrive-back ACK n = unfold ack ack-effect new-table in refl
 
   -- ---- questions 7 to 10
   unfoldable pub ticket-questions : Content → List Bool
@@ -101,7 +78,3 @@ module _ (s : State) (p : Packet) where
   arrive-questioned (DATA v h) n = refl
   arrive-questioned (NOTE t) n = absurd (n t refl)
   arrive-questioned ACK n = refl
-
-  pub notes-questioned : (t : ℕ) → ticket-questions (NOTE t) ≡ note-questions (s .notes (s .job .home (p .receiver))) (note-of p t)
-  unfolding ticket-questions ticket-fits ticket-admitted ticket-has-room note-questions
-  notes-questioned t = refl

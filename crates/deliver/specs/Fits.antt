@@ -1,10 +1,10 @@
 -- What a memory of any contents sends fits a word, and so does the answer under a packet's own name.
-use Rattle.lists.specs.Basics.{_≡_, refl, Bool, true, false, List, Option, some, none, ℕ, _%_, _<_, mod-eq-of-lt}
+use Rattle.lists.specs.Basics.{_≡_, refl, Bool, true, false, List, Option, some, none, ℕ, _%_, mod-eq-of-lt}
 use Rattle.lists.specs.Tests.{either}
 use Rattle.protocol.specs.declared.Content.{Content}
 use Rattle.protocol.specs.{declared.Content.the-variants.{Ask as ASK, GrantOld as GRANT-old, GrantReceived as GRANT-received, GrantNew as GRANT-new, Data as DATA, Note as NOTE, Ack as ACK}}
 use Rattle.protocol.specs.{declared.Entry.Entry, declared.Lookup.Lookup, declared.Lookup.the-variants.{Missing, Ticketed, Unticketed}, declared.Message.Message}
-use Rattle.protocol.specs.{declared.Packet.Packet, Parts.Memory, Packets.lookup}
+use Rattle.protocol.specs.{declared.Packet.Packet, Parts.Memory}
 use Rattle.packets.specs.{Words.{fit-content, fitted}, Fits.{Fits, fits-same}}
 use Rattle.memory.specs.View.{memory-view, log-part}
 use Rattle.deliver.specs.Effect.{Effect, effect, ask-effect, grant-of, new-ticket, unticketed, grant-old-effect, grant-received-effect, grant-new-effect, data-effect}
@@ -37,15 +37,12 @@ unticketed-fits d f Missing p q = p
 unticketed-fits d f Ticketed p q = p
 unticketed-fits d f (Unticketed x) p q = q x refl
 
-logged-fits : (ws : List ℕ) (r n : ℕ) (x : Message) → Unticketed x ≡ lookup (memory-view ws .log) r n → x .hops < 8
-logged-fits ws r n x e = logs.unticketed-fits _ r n x (rw (log-part ws) at e) .hops
-
 pub reply-fits : (ws : List ℕ) (p : Packet) (c : Content) → Sendable (effect (memory-view ws) p c)
 unfolding effect grant-old-effect grant-received-effect grant-new-effect ack-effect fit-reply fit-content
 reply-fits ws p ASK = ask-fits _ _ _ _ _
 reply-fits ws p GRANT-old = unticketed-fits _ _ _ refl (λ x e. refl)
 reply-fits ws p (GRANT-received t) = unticketed-fits _ _ _ refl (λ x e. refl)
-reply-fits ws p (GRANT-new t) = unticketed-fits _ _ _ refl (λ x e. rw (mod-eq-of-lt (logged-fits ws _ _ x e)))
+reply-fits ws p (GRANT-new t) = unticketed-fits _ _ _ refl (λ x e. rw (mod-eq-of-lt (logs.unticketed-fits _ _ _ x (rw (log-part ws) at e) .hops)))
 reply-fits ws p (DATA v h) = data-fits _ _ _ _ _ _
 reply-fits ws p (NOTE t) = refl
 reply-fits ws p ACK = refl

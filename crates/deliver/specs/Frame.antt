@@ -1,12 +1,12 @@
 -- Frame 11 as a whole: its questions before the packet is sought, the state after it, and what becomes of a packet found.
 use Rattle.lists.specs.Basics.{Bool, not, _&&_, List, [], _∷_, Option, some, none, ℕ, _<_, leb, length}
-use Rattle.lists.specs.Questions.{asks}
+use Rattle.lists.specs.Questions.{Result, refuse, ok, asks}
 use Rattle.protocol.specs.{declared.Answer.the-variants.Accepted, declared.Packet.Packet, declared.Status.Status, Parts.{Job, State, most, with-wire}, Frames.between}
 use Rattle.protocol.specs.{Packets.{destination, deliver, note-of}, Step.{Outcome, judged}}
 use Rattle.words.specs.Rows.{without}
 use Rattle.head.specs.Head.{runs}
 use Rattle.packets.specs.Fits.{Fits}
-use Rattle.deliver.specs.{More.then, Effect.{effect, effect-questions}, NoteEffect.{note-effect, note-questions}, Arrival.{put-effect, put-notes}}
+use Rattle.deliver.specs.{Effect.{effect, effect-questions}, NoteEffect.{note-effect, note-questions}, Arrival.{put-effect, put-notes}}
 
 unfoldable pub delivered : State → ℕ → ℕ → ℕ → ℕ → Option Packet → State
 delivered s k a r n none = s
@@ -32,6 +32,11 @@ taken-off s at = with-wire s (without at (s .wire))
 pub record Waits (s : State) (at : ℕ) (p : Packet) : Type 0 where
   pub fits : Fits p
   pub here : at < length (s .wire)
+
+-- what follows the questions, changed by f
+unfoldable pub then : {S T : Type 0} → (S → T) → Result S → Result T
+then f (refuse n) = refuse n
+then f (ok x) = ok (f x)
 
 -- the packet p, at a place on the wire, comes to the memory of chare c
 unfoldable pub chare-outcome : State → ℕ → ℕ → Packet → Outcome

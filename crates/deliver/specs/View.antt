@@ -1,12 +1,12 @@
 -- What the answers of this crate's functions mean.
-use Rattle.lists.specs.Basics.{_≡_, _∙_, Bool, List, Option, some, none, ℕ, _<_, arith}
-use Rattle.lists.specs.Questions.{ok, refuse, asks}
+use Rattle.lists.specs.Basics.{_≡_, refl, _∙_, Bool, List, Option, some, none, ℕ, zero, suc, _<_, arith}
+use Rattle.lists.specs.Questions.{Result, ok, refuse, asks}
 use Rattle.arrays.specs.Front.{push}
 use Rattle.protocol.specs.{declared.Content.Content, declared.Packet.Packet, Parts.{Memory, wire-room}}
 use Rattle.packets.specs.Words.{fitted}
 use Rattle.memory.specs.View.{memory-view}
 use Rattle.deliver.specs.{declared.arrive.Reply.Reply, declared.arrive.Reply.the-variants.{Nothing, Send}, declared.arrive.Arrived.Arrived}
-use Rattle.deliver.specs.{More.{by-number, by-none, by-refused}, Effect.{Effect, effect, effect-questions, no-questions}}
+use Rattle.deliver.specs.Effect.{Effect, effect, effect-questions, no-questions}
 
 unfoldable pub reply-of : Reply → Option Content
 reply-of Nothing = none
@@ -20,6 +20,21 @@ effect-of ws r = record { memory = memory-view ws; reply = reply-of r }
 unfoldable pub answered : List Packet → Packet → Reply → List Packet
 answered l p Nothing = l
 answered l p (Send c) = push wire-room l (fitted (record { sender = p .sender; receiver = p .receiver; sn = p .sn; content = c }))
+
+-- refused by a number; 0 is no refusal
+unfoldable pub by-number : {S : Type 0} → ℕ → S → Result S
+by-number zero x = ok x
+by-number (suc n) x = refuse (suc n)
+
+module _ {S : Type 0} where
+  pub by-refused : (n : ℕ) (x : S) → (n ≡ 0 → ⊥) → by-number n x ≡ refuse n
+  unfolding by-number
+  by-refused zero x h = absurd (h refl)
+  by-refused (suc n) x h = refl
+
+  pub by-none : (n : ℕ) (x : S) → n ≡ 0 → by-number n x ≡ ok x
+  unfolding by-number
+  by-none n x h = rw h
 
 -- The questions from 7 on are put to words: the number of the first "no", or 0, and then x, which the words now mean, is what should follow.
 -- A refusal leaves every word as it was.
@@ -46,12 +61,8 @@ module _ {questions : List Bool} {e : Effect} (before after : List ℕ) (r : Arr
   pub refusing : (n : ℕ) → 0 < n → (r .refusal ≡ n) × (r .reply ≡ Nothing) → refuse n ≡ asks 7 questions e → after ≡ before → Arriving questions e before after r
   refusing n h p q s = record { asked = stops (r .refusal) (λ z. let w = p .0 in omega arith) (rw (p .0) q) s; silent = λ _. p .1 }
 
--- ---- a packet, by its content c
-module _ (m : Memory) (p : Packet) {c d : Content} (is-c : d ≡ c) (before after : List ℕ) (r : Arrived) where
-  pub came : Arriving (effect-questions m p c) (effect m p c) before after r → Arriving (effect-questions m p d) (effect m p d) before after r
-  came h = rw is-c h
-
-  -- no question is put
-  pub did : (y : Reply) → effect-questions m p c ≡ no-questions → (r .refusal ≡ 0) × (r .reply ≡ y) → effect-of after y ≡ effect m p c → Arriving (effect-questions m p d) (effect m p d) before after r
-  unfolding no-questions asks
-  did y q h e = came (replying before after r y h (rw (q, e)))
+-- a packet of the content c, to which no question is put
+pub did : (m : Memory) (p : Packet) {c d : Content} → d ≡ c → (before after : List ℕ) (r : Arrived) (y : Reply) → effect-questions m p c ≡ no-questions
+    → (r .refusal ≡ 0) × (r .reply ≡ y) → effect-of after y ≡ effect m p c → Arriving (effect-questions m p d) (effect m p d) before after r
+unfolding no-questions asks
+did m p is-c before after r y q h e = rw is-c (replying before after r y h (rw (q, e)))

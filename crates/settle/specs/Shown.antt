@@ -1,12 +1,12 @@
 -- What frame 16 leaves, before machines settle.
-use Rattle.lists.specs.Basics.{_≡_, sym, _∙_, _≢_, List, ℕ, _+_, _-_, _<_, arith}
-use Rattle.lists.specs.Questions.{asks, yes-asks, first-no, first-no-yes, asks-first}
+use Rattle.lists.specs.Basics.{_≡_, sym, _∙_, _≢_, List, ℕ, _<_, arith}
+use Rattle.lists.specs.Questions.{asks, first-no, first-no-yes}
 use Rattle.protocol.specs.{declared.Answer.the-variants.{Shown, Refused}, Parts.{State, up}, Questions.{show-questions, is-chare}, Step.{Outcome, judged}}
 use Rattle.frames.specs.Range.{between-true}
 use Rattle.words.specs.Part.{part}
 use Rattle.head.specs.{Head.{job-of, lost-of, status-of, runs, chare-asked}, HeadLaws.chares-top}
 use Rattle.memory.specs.{Places.MEMORY, View.memory-view}
-use Rattle.store.specs.{Places.live-from, View.{view, outcome}, ViewLaws.live-at}
+use Rattle.store.specs.{Places.live-from, View.{view, outcome}, ViewLaws.live-at, Framing.{refused, answered}}
 
 unfoldable pub shown : State → ℕ → Outcome
 shown s c = record { state = s; answer = Shown (s .live c .height) (s .live c .state) }
@@ -21,8 +21,7 @@ module _ (xs : List ℕ) (c n : ℕ) (is-n : n ≡ first-no 2 (chare-asked (job-
   asked = is-n
 
   pub show-refused : n ≢ 0 → outcome xs (Refused n) ≡ the-outcome
-  unfolding outcome judged
-  show-refused h = rw (asks-first 2 (show-questions (view xs) c) (shown (view xs) c) (λ z. h (asked ∙ z)), ← asked)
+  show-refused h = refused xs _ n asked _ h .gives
 
   module _ (z : n ≡ 0) where
     pub chare-in : c < 13
@@ -32,16 +31,8 @@ module _ (xs : List ℕ) (c n : ℕ) (is-n : n ≡ first-no 2 (chare-asked (job-
         let h = between-true 1 (job-of xs .chares) c (y .1 .0) in
         omega (arith, chares-top xs)
 
-    -- the part that the code lends has the length between its ends
-    abbrev long : ℕ
-    long = (live-from c + MEMORY) - live-from c
-
-    pub show-done : (height state : ℕ)
-        → height ≡ memory-view (part (live-from c) long xs) .height
-        → state ≡ memory-view (part (live-from c) long xs) .state
-        → outcome xs (Shown height state) ≡ the-outcome
-    unfolding outcome judged shown
-    show-done height state h s =
-        let e : long ≡ MEMORY = omega arith in
-        let yes = first-no-yes 1 (show-questions (view xs) c) (sym asked ∙ z) in
-        rw (yes-asks 2 (show-questions (view xs) c) (shown (view xs) c) yes, h, s, e, ← live-at xs c chare-in)
+    module _ (height state : ℕ) (is-height : height ≡ memory-view (part (live-from c) MEMORY xs) .height) (is-state : state ≡ memory-view (part (live-from c) MEMORY xs) .state) where
+      pub show-done : outcome xs (Shown height state) ≡ the-outcome
+      unfolding outcome shown
+      show-done = answered xs _ n asked xs (Shown height state) (shown (view xs) c) (λ m y. absurd (let y : _≡_ {A = ℕ} 0 1 = cc in omega arith)) z
+          (rw (is-height, is-state, ← live-at xs c chare-in)) .gives

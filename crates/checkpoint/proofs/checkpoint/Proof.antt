@@ -1,8 +1,9 @@
 -- `checkpoint::checkpoint` meets its contract: refused, or fixed, held and cleaned.
-use Rattle.lists.specs.Basics.{arith, needs}
+use Rattle.lists.specs.Basics.{refl, arith, needs}
 use Rattle.arrays.specs.ArrayMap.{as-map}
-use Rattle.store.specs.{Framing.{refused, accepted}, View.{view, tried}}
-use Rattle.checkpoint.specs.Whole.{checkpoint-in, checkpoint-is}
+use Rattle.protocol.specs.Questions.{checkpoint-questions, is-machine}
+use Rattle.store.specs.{Framing.{refused, accepted, machine-in}, View.{view, tried}}
+use Rattle.checkpoint.specs.Parts.{checkpoint-is}
 use Rattle.checkpoint.proofs.checkpoint.Statement.{statement}
 use Rattle.checkpoint.proofs.checkpoint.Tie as tie
 
@@ -14,11 +15,12 @@ returns c =
     refused (st .args .s .now) _ _ (j .judge .ensures) _ (c .if1 .taken)
 
 hold-requires : tie.Need-hold-requires
+unfolding checkpoint-questions is-machine view
 hold-requires c κs =
     let x = c .before .before .before .before .before in
     let j = x .before in
     let st = j .before .before .before in
-    let h = checkpoint-in (st .args .s .now) (st .args .p) (j .judge .result) (j .judge .ensures) (search needs) in
+    let h = machine-in (st .args .s .now) (st .args .p) (j .judge .result) _ _ _ _ (j .judge .ensures) refl (search needs) in
     (search needs, omega arith)
 
 returns-2 : tie.Need-returns-2

@@ -1,9 +1,10 @@
 -- `checkpoint::clean` meets its contract: the logs below n are cleaned.
-use Rattle.lists.specs.Basics.{_≡_, sym, _∙_, _+_, _-_, _*_, _≤_, arith, needs, length}
+use Rattle.lists.specs.Basics.{_≡_, sym, ap, _∙_, _+_, _-_, _*_, _≤_, arith, needs, length}
 use Rattle.arrays.specs.ArrayMap.{as-map}
 use Rattle.memory.specs.Places.{MEMORY}
-use Rattle.store.specs.{Places.{STORE, LIVE}, View.view}
-use Rattle.checkpoint.specs.Cleaning.{cleaned-to, clean-none, clean-miss, clean-hit, clean-end}
+use Rattle.protocol.specs.Parts.{with-live}
+use Rattle.store.specs.{Places.{STORE, LIVE}, View.view, Visits.visit-none}
+use Rattle.checkpoint.specs.Cleaning.{cleaned-to, clean-miss, clean-hit, clean-end}
 use Rattle.checkpoint.proofs.clean.Statement.{statement}
 use Rattle.checkpoint.proofs.clean.Tie as tie
 
@@ -14,7 +15,7 @@ abbrev μ-loop : tie.MeasureT-loop
 μ-loop s₀ limits n₀ s n = 13 - n
 
 loop-holds : tie.Need-loop-holds Inv-loop μ-loop
-loop-holds c = (omega arith, c .before .before .pre, clean-none _ _)
+loop-holds c = (omega arith, c .before .before .pre, ap (with-live (view (c .before .before .args .s .now))) (visit-none _ _ _))
 
 loop-again : tie.Need-loop-again Inv-loop μ-loop
 loop-again c =

@@ -1,8 +1,8 @@
 -- `checkpoint::fix` meets its contract: the chares below n are pruned and copied.
 use Rattle.lists.specs.Basics.{_≡_, sym, _∙_, _+_, _-_, _*_, _≤_, arith, needs, length}
 use Rattle.memory.specs.Places.{MEMORY}
-use Rattle.store.specs.{ViewLaws.apart, Places.{STORE, LIVE}, View.view}
-use Rattle.checkpoint.specs.Fixing.{fixed-to, fix-none, fix-miss, fix-hit, fix-end}
+use Rattle.store.specs.{ViewLaws.apart, Places.{STORE, LIVE}, View.view, Visits.visit-none}
+use Rattle.checkpoint.specs.Fixing.{fixed-to, both, fix-miss, fix-hit, fix-end}
 use Rattle.checkpoint.proofs.fix.Statement.{statement}
 use Rattle.checkpoint.proofs.fix.Tie as tie
 
@@ -13,7 +13,7 @@ abbrev μ-loop : tie.MeasureT-loop
 μ-loop s₀ p n₀ s n = 13 - n
 
 loop-holds : tie.Need-loop-holds Inv-loop μ-loop
-loop-holds c = (omega arith, c .before .pre, fix-none _ _)
+loop-holds c = (omega arith, c .before .pre, both (view (c .before .args .s .now)) (visit-none _ _ _) (visit-none _ _ _))
 
 copy-requires : tie.Need-copy-requires Inv-loop μ-loop
 copy-requires c κs =

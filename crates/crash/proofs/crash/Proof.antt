@@ -1,7 +1,8 @@
 -- `crash::crash` meets its contract: refused, lost without cover, or down.
-use Rattle.lists.specs.Basics.{arith, not-true, not-false, needs}
-use Rattle.store.specs.Framing.{refused}
-use Rattle.crash.specs.Whole.{crash-in, covered, uncovered}
+use Rattle.lists.specs.Basics.{refl, arith, not-true, not-false, needs}
+use Rattle.protocol.specs.Questions.{crash-questions, is-machine}
+use Rattle.store.specs.{Framing.{refused, machine-in}, View.view}
+use Rattle.crash.specs.Whole.{covered, uncovered}
 use Rattle.crash.proofs.crash.Statement.{statement}
 use Rattle.crash.proofs.crash.Tie as tie
 
@@ -20,11 +21,12 @@ returns-2 c =
     uncovered (st .args .s .now) (st .args .p) _ (j .judge .ensures) (search needs) _ (h .has-cover .ensures) (not-true _ (c .if2 .taken)) (st .pre)
 
 go-down-requires : tie.Need-go-down-requires
+unfolding crash-questions is-machine view
 go-down-requires c κs =
     let x = c .before .before .before .before in
     let j = x .before in
     let st = j .before .before .before in
-    let h = crash-in (st .args .s .now) (st .args .p) (j .judge .result) (j .judge .ensures) (search needs) in
+    let h = machine-in (st .args .s .now) (st .args .p) (j .judge .result) _ _ _ _ (j .judge .ensures) refl (search needs) in
     (search needs, omega arith)
 
 returns-3 : tie.Need-returns-3

@@ -1,25 +1,27 @@
 -- `crash::has_cover` meets its contract: the machines before q are normal, so the answer is that for the rest.
-use Rattle.lists.specs.Basics.{_≡_, sym, _∙_, _-_, _≤_, arith, not-true, not-false, needs}
+use Rattle.lists.specs.Basics.{_≡_, refl, sym, _∙_, _-_, _≤_, arith, not-true, not-false, needs}
 use Rattle.arrays.specs.Loops.{each, each-hit, each-miss, each-end}
-use Rattle.protocol.specs.Crash.{is-normal}
+use Rattle.lists.specs.Lists.{allb}
+use Rattle.protocol.specs.{Crash.{is-normal, has-cover}, Parts.every-machine}
 use Rattle.store.specs.View.{view}
-use Rattle.crash.specs.Cover.{all-normal, each-machine, no-cover, cover-held}
 use Rattle.crash.proofs.has_cover.Statement.{statement}
 use Rattle.crash.proofs.has_cover.Tie as tie
 
 abbrev Inv-loop : tie.InvT-loop
-Inv-loop s p q₀ q = (1 ≤ q) × (q ≤ 7) × (all-normal (view s) ≡ each (is-normal (view s)) (7 - q) q)
+Inv-loop s p q₀ q = (1 ≤ q) × (q ≤ 7) × (allb (is-normal (view s)) every-machine ≡ each (is-normal (view s)) (7 - q) q)
 
 abbrev μ-loop : tie.MeasureT-loop
 μ-loop s p q₀ q = 7 - q
 
 loop-holds : tie.Need-loop-holds Inv-loop μ-loop
-loop-holds c = (search needs, search needs, each-machine _)
+unfolding allb every-machine each
+loop-holds c = (search needs, search needs, refl)
 
 returns : tie.Need-returns Inv-loop μ-loop
+unfolding has-cover
 returns c =
     let l = c .before .before .before .loop in
-    no-cover _ _ (each-miss _ 7 (l .q) _ (l .inv .2) (omega arith) (sym (c .before .is-normal .ensures) ∙ not-true _ (c .if1 .taken)))
+    rw (← each-miss _ 7 (l .q) _ (l .inv .2) (omega arith) (sym (c .before .is-normal .ensures) ∙ not-true _ (c .if1 .taken)))
 
 loop-again : tie.Need-loop-again Inv-loop μ-loop
 loop-again c =
@@ -27,9 +29,10 @@ loop-again c =
     (search needs, search needs, each-hit _ 7 (l .q) _ (l .inv .2) (omega arith) (sym (c .before .is-normal .ensures) ∙ not-false _ (c .if1 .left)))
 
 returns-2 : tie.Need-returns-2 Inv-loop μ-loop
+unfolding has-cover view
 returns-2 c =
     let l = c .before .before .loop in
-    cover-held _ _ (each-end _ 7 (l .q) _ (l .inv .2) (omega arith)) _ (c .is-held .ensures)
+    rw (← each-end _ 7 (l .q) _ (l .inv .2) (omega arith)) (c .is-held .ensures)
 
 pub has-cover-spec : {M : Type 1} → statement M
 has-cover-spec =

@@ -1,8 +1,8 @@
 -- `crash::lose_copies` meets its contract: the chares below n are done.
-use Rattle.lists.specs.Basics.{_≡_, _+_, _-_, _*_, _≤_, arith, needs, length}
+use Rattle.lists.specs.Basics.{_≡_, ap, _+_, _-_, _*_, _≤_, arith, needs, length}
 use Rattle.memory.specs.Places.{MEMORY}
-use Rattle.store.specs.{Places.{STORE, COPY}, View.view}
-use Rattle.crash.specs.Memories.{copy-to, copy-none, copy-miss, copy-hit, copy-end}
+use Rattle.store.specs.{Places.{STORE, COPY}, View.view, Visits.visit-none}
+use Rattle.crash.specs.Memories.{copy-to, with-copy-map, copy-miss, copy-hit, copy-end}
 use Rattle.crash.proofs.lose_copies.Statement.{statement}
 use Rattle.crash.proofs.lose_copies.Tie as tie
 
@@ -13,7 +13,7 @@ abbrev μ-loop : tie.MeasureT-loop
 μ-loop s₀ p n₀ s n = 13 - n
 
 loop-holds : tie.Need-loop-holds Inv-loop μ-loop
-loop-holds c = (omega arith, c .before .pre, copy-none _ _)
+loop-holds c = (omega arith, c .before .pre, ap (with-copy-map (view (c .before .args .s .now))) (visit-none _ _ _))
 
 loop-again : tie.Need-loop-again Inv-loop μ-loop
 loop-again c =

@@ -1,8 +1,9 @@
 -- `crash::lose_live` meets its contract: the chares below n are done.
-use Rattle.lists.specs.Basics.{_≡_, sym, _∙_, _+_, _-_, _*_, _≤_, arith, needs, length}
+use Rattle.lists.specs.Basics.{_≡_, sym, ap, _∙_, _+_, _-_, _*_, _≤_, arith, needs, length}
 use Rattle.memory.specs.Places.{MEMORY}
-use Rattle.store.specs.{Places.{STORE, LIVE}, View.view}
-use Rattle.crash.specs.Memories.{live-to, live-none, live-miss, live-hit, live-end}
+use Rattle.protocol.specs.Parts.{with-live}
+use Rattle.store.specs.{Places.{STORE, LIVE}, View.view, Visits.visit-none}
+use Rattle.crash.specs.Memories.{live-to, live-miss, live-hit, live-end}
 use Rattle.crash.proofs.lose_live.Statement.{statement}
 use Rattle.crash.proofs.lose_live.Tie as tie
 
@@ -13,7 +14,7 @@ abbrev μ-loop : tie.MeasureT-loop
 μ-loop s₀ p n₀ s n = 13 - n
 
 loop-holds : tie.Need-loop-holds Inv-loop μ-loop
-loop-holds c = (omega arith, c .before .pre, live-none _ _)
+loop-holds c = (omega arith, c .before .pre, ap (with-live (view (c .before .args .s .now))) (visit-none _ _ _))
 
 loop-again : tie.Need-loop-again Inv-loop μ-loop
 loop-again c =

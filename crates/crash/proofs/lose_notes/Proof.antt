@@ -1,7 +1,7 @@
 -- `crash::lose_notes` meets its contract: the machines below n are done.
 use Rattle.lists.specs.Basics.{_≡_, _+_, _-_, _*_, _≤_, arith, needs, length-set, length}
-use Rattle.store.specs.{Visits.held-length, Places.{STORE, NOTES, NOTELIST}, View.view}
-use Rattle.crash.specs.Keeping.{kept-to, kept-none, kept-miss, kept-hit, kept-end}
+use Rattle.store.specs.{Visits.{visit-none, held-length}, Places.{STORE, NOTES, NOTELIST}, View.view}
+use Rattle.crash.specs.Keeping.{kept-to, both, kept-miss, kept-hit, kept-end}
 use Rattle.crash.proofs.lose_notes.Statement.{statement}
 use Rattle.crash.proofs.lose_notes.Tie as tie
 
@@ -12,7 +12,7 @@ abbrev μ-loop : tie.MeasureT-loop
 μ-loop s₀ p n₀ s n = 7 - n
 
 loop-holds : tie.Need-loop-holds Inv-loop μ-loop
-loop-holds c = (omega arith, c .before .pre, kept-none _ _)
+loop-holds c = (omega arith, c .before .pre, both (view (c .before .args .s .now)) (visit-none _ _ _) (visit-none _ _ _))
 
 part-empty-end : tie.Need-part-empty-end Inv-loop μ-loop
 part-empty-end c = simp length-set (omega arith)

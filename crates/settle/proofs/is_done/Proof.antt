@@ -1,9 +1,10 @@
 -- `settle::is_done` meets its contract: those before c pass, so the answer is that for the rest.
 use Rattle.lists.specs.Basics.{_≡_, sym, _∙_, _-_, _≤_, arith, needs, not-true, not-false}
-use Rattle.protocol.specs.Restart.{is-done}
-use Rattle.arrays.specs.Loops.{each, each-hit, each-miss, each-end}
+use Rattle.lists.specs.Lists.{allb}
+use Rattle.protocol.specs.{Parts.every-chare, Restart.is-done}
+use Rattle.arrays.specs.Loops.{each, each-hit, each-miss, each-end, allb-keep}
 use Rattle.store.specs.View.{view}
-use Rattle.settle.specs.Done.{passes, not-done, each-passes}
+use Rattle.settle.specs.Done.{passes}
 use Rattle.settle.proofs.is_done.Statement.{statement}
 use Rattle.settle.proofs.is_done.Tie as tie
 
@@ -14,10 +15,12 @@ abbrev μ-loop : tie.MeasureT-loop
 μ-loop s p c₀ c = 13 - c
 
 returns : tie.Need-returns Inv-loop μ-loop
-returns c = not-done _ _ (sym (c .before .is-catching-up .ensures) ∙ not-true _ (c .if1 .taken))
+unfolding is-done
+returns c = rw (sym (c .before .is-catching-up .ensures) ∙ not-true _ (c .if1 .taken))
 
 loop-holds : tie.Need-loop-holds Inv-loop μ-loop
-loop-holds c = (search needs, search needs, each-passes _ _ (sym (c .before .is-catching-up .ensures) ∙ not-false _ (c .if1 .left)))
+unfolding is-done passes allb each every-chare
+loop-holds c = (search needs, search needs, rw (sym (c .before .is-catching-up .ensures) ∙ not-false _ (c .if1 .left)) (allb-keep _ _ every-chare))
 
 returns-2 : tie.Need-returns-2 Inv-loop μ-loop
 returns-2 c =

@@ -1,6 +1,6 @@
 -- `arrive` goes by the content.
 use Rattle.lists.specs.Basics.{refl, needs}
-use Rattle.deliver.specs.{Effect.{effect, effect-questions}, Fits.hops-fit, View.{effect-of, reply-of, came, did}}
+use Rattle.deliver.specs.{Effect.{effect, effect-questions}, Fits.hops-fit, View.{effect-of, reply-of, did}}
 use Rattle.deliver.proofs.arrive.arrive.Statement.{statement}
 use Rattle.deliver.proofs.arrive.arrive.Tie as tie
 
@@ -68,7 +68,7 @@ returns : tie.Need-returns
 unfolding effect effect-questions
 returns c =
     let g = c .before .before in
-    came _ _ (g .before .before .enum-told .given .1) _ _ _ (g .ask .ensures)
+    rw (g .before .before .enum-told .given .1) (g .ask .ensures)
 
 same-length-2 : tie.Need-same-length-2
 same-length-2 c = search needs

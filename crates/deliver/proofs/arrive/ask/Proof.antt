@@ -1,12 +1,13 @@
 -- `ask`: an entry found, the SN worked, a refusal, or a new ticket.
-use Rattle.lists.specs.Basics.{none, _≡_, refl, sym, ap, _∙_, false, _-_, arith, mod-eq-of-lt, needs, not-true, not-false, length}
-use Rattle.lists.specs.Questions.{ok}
+use Rattle.lists.specs.Basics.{none, _≡_, refl, sym, ap, _∙_, false, _-_, _<_, arith, mod-eq-of-lt, lt-leb, le-leb, lt-ltb, le-ltb, needs, not-true, not-false, length}
+use Rattle.lists.specs.Questions.{ok, asks}
 use Rattle.arrays.specs.Front.{push}
-use Rattle.protocol.specs.{Packets.is-worked, Tickets.{entry, new-tn, unreceived}, declared.Content.the-variants.GrantNew as GRANT-new}
+use Rattle.protocol.specs.{Parts.{Memory, most, table-room}, Packets.is-worked, Window.worked}
+use Rattle.protocol.specs.{Tickets.{entry, next-tn, new-tn, unreceived}, declared.Content.the-variants.GrantNew as GRANT-new}
 use Rattle.words.specs.Part.{part, part-length}
 use Rattle.tickets.specs.Table.{found-entry}
 use Rattle.memory.specs.{Places.{TABLE, ROW}, View.{memory-view, table-part, table-changed}}
-use Rattle.deliver.specs.{Effect.answering, EffectLaws.{ask-found, ask-worked, ask-new, tn-passes, not-admitted, table-full, entered, worked-by, tn-by}}
+use Rattle.deliver.specs.{Effect.{answering, ask-questions, ask-effect, no-questions, ask-new, entered}}
 use Rattle.deliver.specs.{View.{effect-of, reply-of, replying, refusing}}
 use Rattle.deliver.proofs.arrive.ask.Statement.{statement}
 use Rattle.deliver.proofs.arrive.ask.Tie as tie
@@ -24,24 +25,28 @@ else-of c = c .before .before .before .before .before .before .before
 abbrev worked-of : tie.After-next-tn → tie.After-worked
 worked-of c = else-of c .before
 
+abbrev memory-of : tie.After-worked → Memory
+memory-of c = memory-view (start-of c .args .m .now)
+
 -- ---- what was found there, of the memory as it came
-mark-of : (c : tie.After-worked) → c .before .before .before .mark .result ≡ memory-view (start-of c .args .m .now) .mark (start-of c .args .sender)
-mark-of c = c .before .before .before .mark .ensures
+worked-at : (c : tie.After-worked) → c .worked .result ≡ is-worked (memory-of c) (start-of c .args .sender) (start-of c .args .sn)
+unfolding is-worked
+worked-at c = c .worked .ensures ∙ (λ i. worked (c .before .before .before .mark .ensures i) (c .before .window .ensures i) (start-of c .args .sn))
 
-worked-at : (c : tie.After-worked) → c .worked .result ≡ is-worked (memory-view (start-of c .args .m .now)) (start-of c .args .sender) (start-of c .args .sn)
-worked-at c = c .worked .ensures ∙ worked-by _ _ _ _ _ (mark-of c) (c .before .window .ensures)
-
-not-worked : (c : tie.Else1) → is-worked (memory-view (start-of (c .before) .args .m .now)) (start-of (c .before) .args .sender) (start-of (c .before) .args .sn) ≡ false
+not-worked : (c : tie.Else1) → is-worked (memory-of (c .before)) (start-of (c .before) .args .sender) (start-of (c .before) .args .sn) ≡ false
 not-worked c = sym (worked-at (c .before)) ∙ c .if1 .left
 
-no-entry : (c : tie.After-worked) → entry (memory-view (start-of c .args .m .now) .table) (start-of c .args .sender) (start-of c .args .sn) ≡ none
+no-entry : (c : tie.After-worked) → entry (memory-of c .table) (start-of c .args .sender) (start-of c .args .sn) ≡ none
 unfolding found-entry
 no-entry c =
     let a = start-of c .args in
     ap (λ l. entry l (a .sender) (a .sn)) (table-part (a .m .now)) ∙ sym (find-of c .find .ensures) ∙ ap found-entry (c .before .before .before .before .before .enum-told .given .1)
 
-tn-at : (c : tie.After-next-tn) → c .next-tn .result ≡ new-tn (memory-view (start-of (worked-of c) .args .m .now))
-tn-at c = c .next-tn .ensures ∙ tn-by _ _ _ _ (c .before .before .before .before .before .height .ensures) (c .before .before .before .top .ensures) (sym (table-part _))
+tn-at : (c : tie.After-next-tn) → c .next-tn .result ≡ new-tn (memory-of (worked-of c))
+unfolding new-tn
+tn-at c =
+    let t = c .before .before .before in
+    c .next-tn .ensures ∙ (λ i. next-tn (t .before .before .height .ensures i) (t .top .ensures i) (sym (table-part (start-of (worked-of c) .args .m .now)) i))
 
 sub-find : tie.Need-sub-find
 sub-find c = search needs
@@ -68,12 +73,13 @@ same-length : tie.Need-same-length
 same-length c = search needs
 
 returns : tie.Need-returns
-unfolding effect-of reply-of found-entry
+unfolding effect-of reply-of found-entry ask-questions ask-effect asks no-questions
 returns c =
     let f = c .before .before .before in
     let k = f .before .before in
     let a = k .before .before .before .before .args in
-    replying (a .m .now) _ _ _ (c .replied .ensures) (rw (c .before .grant-of .ensures) (ask-found _ _ _ _ _ (ap (λ l. entry l (a .sender) (a .sn)) (table-part (a .m .now)) ∙ sym (k .find .ensures) ∙ ap found-entry (f .e .given .1))))
+    let found = ap (λ l. entry l (a .sender) (a .sn)) (table-part (a .m .now)) ∙ sym (k .find .ensures) ∙ ap found-entry (f .e .given .1) in
+    replying (a .m .now) _ _ _ (c .replied .ensures) (rw (c .before .grant-of .ensures, found))
 
 enum-told : tie.Need-enum-told
 enum-told c = search needs
@@ -94,10 +100,10 @@ same-length-2 : tie.Need-same-length-2
 same-length-2 c = search needs
 
 returns-2 : tie.Need-returns-2
-unfolding effect-of reply-of
+unfolding effect-of reply-of ask-questions ask-effect asks no-questions
 returns-2 c =
     let w = c .before .before in
-    replying (start-of w .args .m .now) _ _ _ (c .replied2 .ensures) (ask-worked _ _ _ _ _ (no-entry w) (sym (worked-at w) ∙ c .before .if1 .taken))
+    replying (start-of w .args .m .now) _ _ _ (c .replied2 .ensures) (rw (no-entry w, sym (worked-at w) ∙ c .before .if1 .taken))
 
 height-requires : tie.Need-height-requires
 height-requires c κs = search needs
@@ -124,11 +130,12 @@ same-length-3 : tie.Need-same-length-3
 same-length-3 c = search needs
 
 returns-3 : tie.Need-returns-3
+unfolding asks
 returns-3 c =
     let t = c .before .before in
     let w = worked-of t in
     refusing (start-of w .args .m .now) _ _ 7 (omega arith) (c .refused .ensures)
-    (tn-passes _ _ _ (omega (arith, tn-at t)) ∙ ask-new _ _ _ _ _ (no-entry w) (not-worked (else-of t))) refl
+    (ask-new _ _ _ (tn-at t) refl (no-entry w) (not-worked (else-of t)) (lt-leb (t .next-tn .result) most (omega arith)) refl refl) refl
 
 admitted-requires : tie.Need-admitted-requires
 admitted-requires c κs = search needs
@@ -140,12 +147,14 @@ same-length-4 : tie.Need-same-length-4
 same-length-4 c = search needs
 
 returns-4 : tie.Need-returns-4
+unfolding asks
 returns-4 c =
     let d = c .before .before in
     let t = d .before .before in
     let w = worked-of t in
     refusing (start-of w .args .m .now) _ _ 8 (omega arith) (c .refused2 .ensures)
-    (not-admitted _ _ _ (omega (arith, tn-at t)) (rw (← mark-of w) (sym (d .admitted .ensures) ∙ not-true _ (c .before .if3 .taken))) ∙ ask-new _ _ _ _ _ (no-entry w) (not-worked (else-of t))) refl
+    (ask-new _ _ _ (tn-at t) (w .before .before .before .mark .ensures) (no-entry w) (not-worked (else-of t))
+    (le-leb (t .next-tn .result) most (omega arith)) (sym (d .admitted .ensures) ∙ not-true _ (c .before .if3 .taken)) refl) refl
 
 sub-count : tie.Need-sub-count
 sub-count c = search needs
@@ -166,6 +175,7 @@ same-length-5 : tie.Need-same-length-5
 same-length-5 c = search needs
 
 returns-5 : tie.Need-returns-5
+unfolding asks
 returns-5 c =
     let n = c .before .before in
     let d = n .before .before .before .before in
@@ -173,7 +183,8 @@ returns-5 c =
     let w = worked-of t in
     let a = start-of w .args in
     refusing (a .m .now) _ _ 10 (omega arith) (c .refused3 .ensures)
-    (table-full _ _ _ (omega (arith, tn-at t)) (rw (← mark-of w) (sym (d .admitted .ensures) ∙ not-false _ (n .before .before .before .if3 .left))) (rw (table-part (a .m .now)) (omega (arith, n .count .ensures))) ∙ ask-new _ _ _ _ _ (no-entry w) (not-worked (else-of t))) refl
+    (ask-new _ _ _ (tn-at t) (w .before .before .before .mark .ensures) (no-entry w) (not-worked (else-of t))
+    (le-leb (t .next-tn .result) most (omega arith)) (sym (d .admitted .ensures) ∙ not-false _ (n .before .before .before .if3 .left)) (le-ltb (length (memory-view (a .m .now) .table)) table-room (rw table-part (omega (arith, n .count .ensures))))) refl
 
 cast-n : tie.Need-cast-n
 cast-n c = search needs
@@ -197,7 +208,7 @@ same-length-6 : tie.Need-same-length-6
 same-length-6 c = search needs
 
 returns-6 : tie.Need-returns-6
-unfolding effect-of reply-of
+unfolding effect-of reply-of asks
 returns-6 c =
     let x = c .before .before .before in
     let g = x .before .before in
@@ -208,10 +219,12 @@ returns-6 c =
     let a = start-of w .args in
     let size = start-of w .pre .0 in
     let z : length (part TABLE ROW (a .m .now)) - 1 ≡ 16 = omega (arith, part-length TABLE ROW (a .m .now) (omega (arith, size))) in
+    let room : length (memory-view (a .m .now) .table) < table-room = rw table-part (omega (arith, n .count .ensures)) in
     replying (a .m .now) _ _ _ (c .replied3 .ensures)
     (ap (λ m. ok (answering m (GRANT-new (t .next-tn .result)))) (table-changed (a .m .now) (x .enter .last .0) size (omega arith) (λ l. push 16 l (unreceived (a .sender) (a .sn) (t .next-tn .result))) (rw (z, mod-eq-of-lt (start-of w .pre .1)) at (x .enter .ensures)))
-    ∙ entered _ _ _ (omega (arith, tn-at t)) (rw (← mark-of w) (sym (d .admitted .ensures) ∙ not-false _ (n .before .before .before .if3 .left))) (rw (table-part (a .m .now)) (omega (arith, n .count .ensures))) _ _ (tn-at t) refl
-    ∙ ask-new _ _ _ _ _ (no-entry w) (not-worked (else-of t)))
+    ∙ ap ok (entered _ _ _ (tn-at t) room)
+    ∙ ask-new _ _ _ (tn-at t) (w .before .before .before .mark .ensures) (no-entry w) (not-worked (else-of t))
+    (le-leb (t .next-tn .result) most (omega arith)) (sym (d .admitted .ensures) ∙ not-false _ (n .before .before .before .if3 .left)) (lt-ltb _ table-room room))
 
 pub ask-spec : {M : Type 1} → statement M
 ask-spec =

@@ -3,7 +3,7 @@ use Rattle.lists.specs.Basics.{_∙_, ap, sym, _%_, arith, needs, not-true, not
 use Rattle.protocol.specs.Tickets.{entry, filled}
 use Rattle.tickets.specs.Table.{found-entry}
 use Rattle.memory.specs.View.{table-part, table-changed}
-use Rattle.deliver.specs.{Effect.quiet, EffectLaws.{data-no-entry, data-received, data-fills}, View.{effect-of, reply-of}}
+use Rattle.deliver.specs.{Effect.{quiet, data-effect}, View.{effect-of, reply-of}}
 use Rattle.deliver.proofs.arrive.data_in.Statement.{statement}
 use Rattle.deliver.proofs.arrive.data_in.Tie as tie
 
@@ -41,7 +41,7 @@ same-length : tie.Need-same-length
 same-length c = search needs
 
 returns : tie.Need-returns
-unfolding effect-of reply-of found-entry
+unfolding effect-of reply-of found-entry data-effect
 returns c =
     let t = c .before .before in
     let i = t .before .before in
@@ -51,30 +51,30 @@ returns c =
     let a = st .args in
     let e = ap (λ l. entry l (a .sender) (a .sn)) (table-part (a .m .now)) ∙ sym (k .find .ensures) ∙ ap found-entry (x .e .given .1) in
     ap quiet (table-changed (a .m .now) (t .fill .last .0) (st .pre) (omega arith) (filled (a .sender) (a .sn) (a .value) (a .hops % 8)) (t .fill .ensures))
-    ∙ data-fills _ _ _ _ _ e (not-true _ (i .if1 .taken))
+    ∙ rw (e, not-true (x .e .given .0 .0 .received) (i .if1 .taken))
 
 same-length-2 : tie.Need-same-length-2
 same-length-2 c = search needs
 
 returns-2 : tie.Need-returns-2
-unfolding effect-of reply-of found-entry
+unfolding effect-of reply-of found-entry data-effect
 returns-2 c =
     let x = c .before .before .before in
     let k = x .before .before in
     let a = k .before .before .before .before .args in
     let e = ap (λ l. entry l (a .sender) (a .sn)) (table-part (a .m .now)) ∙ sym (k .find .ensures) ∙ ap found-entry (x .e .given .1) in
-    data-received _ _ _ _ _ e (not-false _ (c .if1 .left))
+    rw (e, not-false (x .e .given .0 .0 .received) (c .if1 .left))
 
 same-length-3 : tie.Need-same-length-3
 same-length-3 c = search needs
 
 returns-3 : tie.Need-returns-3
-unfolding effect-of reply-of found-entry
+unfolding effect-of reply-of found-entry data-effect
 returns-3 c =
     let k = c .before .before in
     let a = k .before .before .before .before .args in
     let e = ap (λ l. entry l (a .sender) (a .sn)) (table-part (a .m .now)) ∙ sym (k .find .ensures) ∙ ap found-entry (c .enum-told .given .1) in
-    data-no-entry _ _ _ _ _ e
+    rw e
 
 pub data-in-spec : {M : Type 1} → statement M
 data-in-spec =

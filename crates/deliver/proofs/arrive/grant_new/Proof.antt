@@ -1,8 +1,8 @@
 -- `grant_new`: the message without a TN gets it, and goes out.
-use Rattle.lists.specs.Basics.{_∙_, ap, sym, arith, needs}
-use Rattle.protocol.specs.{Packets.{lookup, ticketed}, declared.Content.the-variants.Data as DATA}
+use Rattle.lists.specs.Basics.{_∙_, ap, arith, needs}
+use Rattle.protocol.specs.{Packets.ticketed, declared.Content.the-variants.Data as DATA}
 use Rattle.memory.specs.View.{log-part, log-changed}
-use Rattle.deliver.specs.{Effect.{answering, grant-new-effect}, EffectLaws.{dropped, taken-out}, View.{effect-of, reply-of}}
+use Rattle.deliver.specs.{Effect.{answering, unticketed, grant-new-effect}, View.{effect-of, reply-of}}
 use Rattle.deliver.proofs.Tags.{no-unticketed}
 use Rattle.deliver.proofs.arrive.grant_new.Statement.{statement}
 use Rattle.deliver.proofs.arrive.grant_new.Tie as tie
@@ -11,11 +11,10 @@ returns : tie.Need-returns
 unfolding effect-of reply-of grant-new-effect
 returns c =
     let k = c .before in
-    let a = k .before .before .before .before .args in
-    dropped _ _ (k .lookup .ensures ∙ ap (λ l. lookup l (a .receiver) (a .sn)) (sym (log-part (a .m .now)))) (no-unticketed _ (c .match .keys2))
+    rw (log-part, ← k .lookup .ensures) (no-unticketed _ _ _ (c .match .keys2))
 
 returns-2 : tie.Need-returns-2
-unfolding effect-of reply-of grant-new-effect
+unfolding unticketed effect-of reply-of grant-new-effect
 returns-2 c =
     let t = c .before .before in
     let x = t .before .before .before in
@@ -24,7 +23,7 @@ returns-2 c =
     let a = st .args in
     let v = x .x .given .0 .0 in
     ap (λ m. answering m (DATA (v .value) (v .hops))) (log-changed (a .m .now) (t .set-ticket .last .0) (st .pre) (omega arith) (ticketed (a .receiver) (a .sn) (a .tn)) (t .set-ticket .ensures))
-    ∙ taken-out _ _ (k .lookup .ensures ∙ ap (λ l. lookup l (a .receiver) (a .sn)) (sym (log-part (a .m .now)))) (x .x .given .1)
+    ∙ rw (log-part, ← k .lookup .ensures, x .x .given .1)
 
 pub grant-new-spec : {M : Type 1} → statement M
 grant-new-spec =

@@ -1,9 +1,9 @@
 -- `grant_old`: the message without a TN goes.
-use Rattle.lists.specs.Basics.{_∙_, ap, sym, arith, needs}
+use Rattle.lists.specs.Basics.{_∙_, ap, arith, needs}
 use Rattle.lists.specs.Lists.{remove1}
-use Rattle.protocol.specs.Packets.{lookup, for-receiver}
+use Rattle.protocol.specs.Packets.{for-receiver}
 use Rattle.memory.specs.View.{log-part, log-changed}
-use Rattle.deliver.specs.{Effect.{quiet, grant-old-effect}, EffectLaws.{dropped, taken-out}, View.{effect-of, reply-of}}
+use Rattle.deliver.specs.{Effect.{quiet, unticketed, grant-old-effect}, View.{effect-of, reply-of}}
 use Rattle.deliver.proofs.Tags.{no-unticketed}
 use Rattle.deliver.proofs.arrive.grant_old.Statement.{statement}
 use Rattle.deliver.proofs.arrive.grant_old.Tie as tie
@@ -30,8 +30,7 @@ returns : tie.Need-returns
 unfolding effect-of reply-of grant-old-effect
 returns c =
     let k = c .before in
-    let a = k .before .before .before .before .args in
-    dropped _ _ (k .lookup .ensures ∙ ap (λ l. lookup l (a .receiver) (a .sn)) (sym (log-part (a .m .now)))) (no-unticketed _ (c .match .keys2))
+    rw (log-part, ← k .lookup .ensures) (no-unticketed _ _ _ (c .match .keys2))
 
 sub-remove : tie.Need-sub-remove
 sub-remove c = search needs
@@ -49,7 +48,7 @@ same-length-2 : tie.Need-same-length-2
 same-length-2 c = search needs
 
 returns-2 : tie.Need-returns-2
-unfolding effect-of reply-of grant-old-effect
+unfolding unticketed effect-of reply-of grant-old-effect
 returns-2 c =
     let t = c .before .before in
     let x = t .before .before in
@@ -57,7 +56,7 @@ returns-2 c =
     let st = k .before .before .before .before in
     let a = st .args in
     ap quiet (log-changed (a .m .now) (t .remove .last .0) (st .pre) (omega arith) (remove1 (for-receiver (a .receiver) (a .sn))) (t .remove .ensures))
-    ∙ taken-out _ _ (k .lookup .ensures ∙ ap (λ l. lookup l (a .receiver) (a .sn)) (sym (log-part (a .m .now)))) (x .enum-told .given .1)
+    ∙ rw (log-part, ← k .lookup .ensures, x .enum-told .given .1)
 
 pub grant-old-spec : {M : Type 1} → statement M
 grant-old-spec =

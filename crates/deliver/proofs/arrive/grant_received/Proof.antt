@@ -1,8 +1,8 @@
 -- `grant_received`: the message without a TN gets it.
-use Rattle.lists.specs.Basics.{_∙_, ap, sym, arith, needs}
-use Rattle.protocol.specs.Packets.{lookup, ticketed}
+use Rattle.lists.specs.Basics.{_∙_, ap, arith, needs}
+use Rattle.protocol.specs.Packets.{ticketed}
 use Rattle.memory.specs.View.{log-part, log-changed}
-use Rattle.deliver.specs.{Effect.{quiet, grant-received-effect}, EffectLaws.{dropped, taken-out}, View.{effect-of, reply-of}}
+use Rattle.deliver.specs.{Effect.{quiet, unticketed, grant-received-effect}, View.{effect-of, reply-of}}
 use Rattle.deliver.proofs.Tags.{no-unticketed}
 use Rattle.deliver.proofs.arrive.grant_received.Statement.{statement}
 use Rattle.deliver.proofs.arrive.grant_received.Tie as tie
@@ -29,8 +29,7 @@ returns : tie.Need-returns
 unfolding effect-of reply-of grant-received-effect
 returns c =
     let k = c .before in
-    let a = k .before .before .before .before .args in
-    dropped _ _ (k .lookup .ensures ∙ ap (λ l. lookup l (a .receiver) (a .sn)) (sym (log-part (a .m .now)))) (no-unticketed _ (c .match .keys2))
+    rw (log-part, ← k .lookup .ensures) (no-unticketed _ _ _ (c .match .keys2))
 
 sub-set-ticket : tie.Need-sub-set-ticket
 sub-set-ticket c = search needs
@@ -48,7 +47,7 @@ same-length-2 : tie.Need-same-length-2
 same-length-2 c = search needs
 
 returns-2 : tie.Need-returns-2
-unfolding effect-of reply-of grant-received-effect
+unfolding unticketed effect-of reply-of grant-received-effect
 returns-2 c =
     let t = c .before .before in
     let x = t .before .before in
@@ -56,7 +55,7 @@ returns-2 c =
     let st = k .before .before .before .before in
     let a = st .args in
     ap quiet (log-changed (a .m .now) (t .set-ticket .last .0) (st .pre) (omega arith) (ticketed (a .receiver) (a .sn) (a .tn)) (t .set-ticket .ensures))
-    ∙ taken-out _ _ (k .lookup .ensures ∙ ap (λ l. lookup l (a .receiver) (a .sn)) (sym (log-part (a .m .now)))) (x .enum-told .given .1)
+    ∙ rw (log-part, ← k .lookup .ensures, x .enum-told .given .1)
 
 pub grant-received-spec : {M : Type 1} → statement M
 grant-received-spec =
