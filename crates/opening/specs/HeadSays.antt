@@ -3,7 +3,7 @@ use Rattle.lists.specs.Basics.{_≡_, refl, fun-ext, true, false, List, ⊎-eli
 use Rattle.lists.specs.Tests.{lt?}
 use Rattle.arrays.specs.ArrayMap.{as-map, map-beyond}
 use Rattle.protocol.specs.{declared.Status.the-variants.Up, Frames.between, Job.{machines-of, chares-of, job-in-range, job-of, has-machine, has-chare}}
-use Rattle.frames.specs.DigitLaws.{between-high}
+use Rattle.frames.specs.Range.{between-high}
 use Rattle.jobline.specs.{Passes.number-of, JobLaws.in-range}
 use Rattle.words.specs.{Fields.bit-set, Part.{part, part-length}, Zeros.zero-at}
 use Rattle.head.specs.{Cells.{Filled, cell-filled}, Head.{BUDDY, HELD, HOME, FIRST, SECOND, HEAD, cell, lost-of, as-status, status-of, held-of, target-of}, HeadLaws.job-is}

@@ -1,8 +1,8 @@
 -- Chares start with their numbers as states, one after the other.
 use Rattle.lists.specs.Basics.{_≡_, refl, sym, ap, _∙_, cond, List, [], _∷_, ℕ, _+_, _-_, _<_, _≤_, arith, mod-eq-of-lt, length, set}
 use Rattle.lists.specs.Map.{upd}
-use Rattle.protocol.specs.{Parts.{Memory, State, with-memory}, Frames.between}
-use Rattle.frames.specs.DigitLaws.{between-in, between-low, between-high}
+use Rattle.protocol.specs.{Parts.{Memory, State, with-memory}, Frames.between, Recovery.Frames.Job.true-between}
+use Rattle.frames.specs.Range.{between-low, between-high}
 use Rattle.words.specs.Part.{part, put, part-length}
 use Rattle.memory.specs.{Places.{STATE, MEMORY}, View.memory-view}
 use Rattle.store.specs.{Places.{STORE, live-from, copy-from}, View.view, ViewLaws.{copy-at, live-changed, live-length, copy-put, with-copy}}
@@ -41,7 +41,7 @@ module _ (n : ℕ) (f : ℕ → Memory) where
 
   named-more : (c : ℕ) → 1 ≤ c → c ≤ n → upd c (with-state (front c (named n f) f c) c) (front c (named n f) f) ≡ front (c + 1) (named n f) f
   unfolding named
-  named-more c h g = front-put c (named n f) f _ refl _ (rw (above c (named n f) f c (omega arith), between-in 1 n c h g))
+  named-more c h g = front-put c (named n f) f _ refl _ (rw (above c (named n f) f c (omega arith), true-between 1 n c h g))
 
   named-end : (k : ℕ) → n + 1 ≤ k → front k (named n f) f ≡ named n f
   unfolding named
