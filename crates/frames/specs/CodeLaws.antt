@@ -44,12 +44,12 @@ paired x y = go (coded x) (coded y)
     go (inr p) (inl q) = record { byte = omega arith; small = omega arith; judged = inr (rw (p .0), omega arith) }
     go (inr p) (inr q) = record { byte = omega arith; small = omega arith; judged = inr (rw (p .0), omega arith) }
 
-pub coded-at : (l : Line) (i a : ℕ) → a ≡ getD (codes l) i 0 → (getD (decoded l) i 0 ≡ a % 256) × (a ≤ no-digit * 17)
+pub coded-at : (l : Line) (i : ℕ) → (getD (decoded l) i 0 ≡ getD (codes l) i 0 % 256) × (getD (codes l) i 0 ≤ no-digit * 17)
 unfolding decoded codes pairs
-coded-at [] i a e = let z = List·getD-eq-default {A = ℕ} [] 0 {n = i} (omega arith) in omega arith
-coded-at (x ∷ []) i a e = let z = List·getD-eq-default {A = ℕ} [] 0 {n = i} (omega arith) in omega arith
-coded-at (x ∷ y ∷ l) zero a e = let p = paired x y in omega arith
-coded-at (x ∷ y ∷ l) (suc i) a e = coded-at l i a e
+coded-at [] i = let z = List·getD-eq-default {A = ℕ} [] 0 {n = i} (omega arith) in omega arith
+coded-at (x ∷ []) i = let z = List·getD-eq-default {A = ℕ} [] 0 {n = i} (omega arith) in omega arith
+coded-at (x ∷ y ∷ l) zero = let p = paired x y in omega arith
+coded-at (x ∷ y ∷ l) (suc i) = coded-at l i
 
 both : {a b : Bool} {s t m n : ℕ} → Judged a s m → Judged b t n → Judged (a && b) (s + t) (m + n)
 both (inl p) (inl q) = inl (rw (p .0, q .0), omega arith)

@@ -27,7 +27,7 @@ frame-short (x ∷ y ∷ l) h = absurd (omega arith)
 -- ---- a line with a kind: k is its code, and m its entry in the table of least lengths
 module _ (l : Line) (k : ℕ) (h : 2 ≤ length l) (is-kind : k ≡ getD (codes l) 0 0) where
   kind-byte : k ≤ 255 → getD (decoded l) 0 0 ≡ k
-  kind-byte s = omega (arith, coded-at l 0 k is-kind .0)
+  kind-byte s = omega (arith, coded-at l 0 .0)
 
   pub frame-unknown : 22 < k → Garbled ≡ read-as (frame l)
   unfolding read-as is-whole least-length least
@@ -54,7 +54,9 @@ module _ (l : Line) (k : ℕ) (h : 2 ≤ length l) (is-kind : k ≡ getD (codes 
       unfolding read-as is-hexadecimal
       frame-length n =
           ⊎-elim
-          (λ (e : length l % 2 ≡ 0). rw (frame-cond l, whole-other, ne-eqb (length l / 2) m (λ f. n (omega arith)), and-false (not (eqb m 0) && leb m (length l / 2)), and-false (is-hexadecimal l)))
+          (λ (e : length l % 2 ≡ 0).
+          let differs = ne-eqb (length l / 2) m (λ f. n (omega arith)) in
+          rw (frame-cond l, whole-other, differs, and-false (not (eqb m 0) && leb m (length l / 2)), and-false (is-hexadecimal l)))
           (λ e. rw (frame-cond l, ne-eqb (length l % 2) 0 e))
           (eq? (length l % 2) 0)
 

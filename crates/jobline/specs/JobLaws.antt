@@ -1,8 +1,8 @@
 -- No number of a job in range is above its bound.
 use Rattle.lists.specs.Basics.{true, List, _≡_, ℕ, _≤_, arith, le-leb, leb-true, eqb, leb}
 use Rattle.lists.specs.{Lists.{allb-true, mem-keep}, Tests.{either, and-l, and4}}
-use Rattle.protocol.specs.{Frames.between, Job.{machines-of, chares-of, buddy-byte, chare-byte, buddy-in-range, chare-in-range, job-in-range, job-of, has-machine, has-chare, previous-machine}}
-use Rattle.protocol.specs.Recovery.Frames.Job.{machine-known, chare-known}
+use Rattle.protocol.specs.Job.{machines-of, chares-of, buddy-byte, chare-byte, buddy-in-range, chare-in-range, job-in-range, job-of, has-machine, has-chare, previous-machine}
+use Rattle.protocol.specs.{Frames.between, Recovery.Frames.Job.{machine-known, chare-known}}
 use Rattle.frames.specs.Range.{Between, between-true}
 use Rattle.jobline.specs.Passes.{number-of}
 

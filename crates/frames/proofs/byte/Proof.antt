@@ -5,7 +5,7 @@ use Rattle.frames.proofs.byte.Statement.{statement}
 use Rattle.frames.proofs.byte.Tie as tie
 
 returns : tie.Need-returns
-returns c = c .narrow .ensures ∙ sym (coded-at _ _ _ (c .before .pair .ensures) .0)
+returns c = c .narrow .ensures ∙ rw (c .before .pair .ensures) (sym (coded-at _ _ .0))
 
 returns-2 : tie.Need-returns-2
 returns-2 c = sym (decoded-end _ _ (c .if1 .left))

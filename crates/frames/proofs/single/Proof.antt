@@ -7,42 +7,47 @@ use Rattle.frames.proofs.single.Tie as tie
 
 returns : tie.Need-returns
 unfolding sum-of
-returns c = behind-none _ _ 1 _ (c .before .before .before .pre .0) (c .if1 .taken) (omega arith) (omega (arith, c .before .pair .ensures))
+returns c = behind-none _ _ 1 _ (c .before .before .before .pre .0) (c .if1 .taken) (omega arith) (omega arith)
 
 returns-2 : tie.Need-returns-2
 unfolding parts read-as sum-of
 returns-2 c =
     let e = c .before .before in
-    let p = e .before in
-    rw (behind-parts (p .before .before .args .line .now) _ 1 _ (p .before .before .pre .0) (e .if1 .left) (omega (arith, p .pair .ensures)), c .before .match .keys1, coded-at _ 1 _ (p .pair .ensures) .0, c .narrow .ensures)
+    let s = e .before .before .before in
+    let l = s .args .line .now in
+    rw (behind-parts l _ 1 _ (s .pre .0) (e .if1 .left) (omega arith), c .before .match .keys1, coded-at l 1 .0, c .narrow .ensures, e .before .pair .ensures)
 
 returns-3 : tie.Need-returns-3
 unfolding parts read-as sum-of
 returns-3 c =
     let e = c .before .before in
-    let p = e .before in
-    rw (behind-parts (p .before .before .args .line .now) _ 1 _ (p .before .before .pre .0) (e .if1 .left) (omega (arith, p .pair .ensures)), c .before .match .keys2, coded-at _ 1 _ (p .pair .ensures) .0, c .narrow2 .ensures)
+    let s = e .before .before .before in
+    let l = s .args .line .now in
+    rw (behind-parts l _ 1 _ (s .pre .0) (e .if1 .left) (omega arith), c .before .match .keys2, coded-at l 1 .0, c .narrow2 .ensures, e .before .pair .ensures)
 
 returns-4 : tie.Need-returns-4
 unfolding parts read-as sum-of
 returns-4 c =
     let e = c .before .before in
-    let p = e .before in
-    rw (behind-parts (p .before .before .args .line .now) _ 1 _ (p .before .before .pre .0) (e .if1 .left) (omega (arith, p .pair .ensures)), c .before .match .keys3, coded-at _ 1 _ (p .pair .ensures) .0, c .narrow3 .ensures)
+    let s = e .before .before .before in
+    let l = s .args .line .now in
+    rw (behind-parts l _ 1 _ (s .pre .0) (e .if1 .left) (omega arith), c .before .match .keys3, coded-at l 1 .0, c .narrow3 .ensures, e .before .pair .ensures)
 
 returns-5 : tie.Need-returns-5
 unfolding parts read-as sum-of
 returns-5 c =
     let e = c .before .before in
-    let p = e .before in
-    rw (behind-parts (p .before .before .args .line .now) _ 1 _ (p .before .before .pre .0) (e .if1 .left) (omega (arith, p .pair .ensures)), c .before .match .keys4, coded-at _ 1 _ (p .pair .ensures) .0, c .narrow4 .ensures)
+    let s = e .before .before .before in
+    let l = s .args .line .now in
+    rw (behind-parts l _ 1 _ (s .pre .0) (e .if1 .left) (omega arith), c .before .match .keys4, coded-at l 1 .0, c .narrow4 .ensures, e .before .pair .ensures)
 
 returns-6 : tie.Need-returns-6
 unfolding parts read-as sum-of
 returns-6 c =
     let e = c .before .before in
-    let p = e .before in
-    rw (behind-parts (p .before .before .args .line .now) _ 1 _ (p .before .before .pre .0) (e .if1 .left) (omega (arith, p .pair .ensures)), c .before .match .keys5, coded-at _ 1 _ (p .pair .ensures) .0, c .narrow5 .ensures)
+    let s = e .before .before .before in
+    let l = s .args .line .now in
+    rw (behind-parts l _ 1 _ (s .pre .0) (e .if1 .left) (omega arith), c .before .match .keys5, coded-at l 1 .0, c .narrow5 .ensures, e .before .pair .ensures)
 
 returns-7 : tie.Need-returns-7
 unfolding parts read-as sum-of
@@ -53,7 +58,7 @@ returns-7 c =
     let k = s .args .kind in
     let r = c .match .rest in
     rw (
-      behind-parts (s .args .line .now) _ 1 _ (s .pre .0) (e .if1 .left) (omega (arith, p .pair .ensures)),
+      behind-parts (s .args .line .now) k 1 _ (s .pre .0) (e .if1 .left) (omega (arith, p .pair .ensures)),
       ne-eqb k 0x01 (λ h. omega (arith, s .pre .1)),
       ne-eqb k 0x10 (λ h. omega (arith, s .pre .1)),
       ne-eqb k 0x11 (λ h. omega (arith, s .pre .1)),
