@@ -1,5 +1,5 @@
 -- The bytes of a line against those of the rule book: the same wherever the line is hexadecimal, and there are none elsewhere.
-use Rattle.lists.specs.Basics.{Bool, true, false, cond, _&&_, and-false, List, [], _∷_, Option, some, none, _≡_, refl, _∙_, ℕ, zero, suc, _+_, _*_, _<_, _≤_, _/_, _%_, arith, eqb, length}
+use Rattle.lists.specs.Basics.{Bool, cond, _&&_, and-false, List, [], _∷_, Option, some, none, _≡_, refl, _∙_, ℕ, zero, suc, _+_, _*_, _<_, _≤_, _/_, _%_, arith, eqb, length}
 use Rattle.lists.specs.Basics.{getD, List·getD-eq-default}
 use Rattle.lists.specs.{Lists.allb, Tests.either}
 use Rattle.protocol.specs.Frames.{Line, digit, pair, bytes}

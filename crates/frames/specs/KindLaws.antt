@@ -1,5 +1,5 @@
 -- A line by its kind's two characters, and by the sum of those behind them.
-use Rattle.lists.specs.Basics.{true, false, _&&_, and-false, and-assoc, List, [], _∷_, _⊎_, inl, inr, none, _≡_, ℕ, zero, suc, _+_, _*_, _<_, _≤_, _%_, _/_, arith, eq-eqb, eqb}
+use Rattle.lists.specs.Basics.{false, and-false, and-assoc, List, [], _∷_, _⊎_, inl, inr, _≡_, ℕ, zero, suc, _+_, _*_, _<_, _≤_, _%_, _/_, arith, eq-eqb, eqb}
 use Rattle.lists.specs.Basics.{length, getD, drop, drop-of-length-le, drop-cons}
 use Rattle.lists.specs.Lists.{allb}
 use Rattle.protocol.specs.Frames.{Line, parts}

@@ -9,24 +9,19 @@ returns : tie.Need-returns
 unfolding digit-code or-no-digit digit
 returns c =
     let x = c .before .before .before .args .x in
-    let high = ltb-true x 58 (c .before .if2 .taken) in
-    c .wide .ensures ∙ rw (true-between 48 57 x (c .before .before .if1 .taken) (omega arith))
+    c .wide .ensures ∙ rw (true-between 48 57 x (omega arith) (omega (arith, ltb-true)))
 
 returns-2 : tie.Need-returns-2
 unfolding digit-code or-no-digit digit
 returns-2 c =
     let x = c .before .before .before .before .args .x in
-    let low = c .before .before .if3 .taken in
-    let high = ltb-true x 71 (c .before .if4 .taken) in
-    c .wide2 .ensures ∙ rw (between-high 48 57 x (omega arith), true-between 65 70 x low (omega arith))
+    c .wide2 .ensures ∙ rw (between-high 48 57 x (omega arith), true-between 65 70 x (omega arith) (omega (arith, ltb-true)))
 
 returns-3 : tie.Need-returns-3
 unfolding digit-code or-no-digit digit
 returns-3 c =
     let x = c .before .before .before .before .before .args .x in
-    let low = c .before .before .if5 .taken in
-    let high = ltb-true x 103 (c .before .if6 .taken) in
-    c .wide3 .ensures ∙ rw (between-high 48 57 x (omega arith), between-high 65 70 x (omega arith), true-between 97 102 x low (omega arith))
+    c .wide3 .ensures ∙ rw (between-high 48 57 x (omega arith), between-high 65 70 x (omega arith), true-between 97 102 x (omega arith) (omega (arith, ltb-true)))
 
 returns-4 : tie.Need-returns-4
 unfolding digit-code or-no-digit digit
