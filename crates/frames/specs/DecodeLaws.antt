@@ -1,7 +1,7 @@
 -- The bytes of a line against those of the rule book: the same wherever the line is hexadecimal, and there are none elsewhere.
-use Rattle.lists.specs.Basics.{Bool, true, false, cond, _&&_, List, [], _∷_, Option, some, none, _≡_, refl, _∙_, ℕ, zero, suc, _+_, _*_, _<_, _≤_, _/_, _%_, arith, eqb, length}
+use Rattle.lists.specs.Basics.{Bool, cond, _&&_, and-false, List, [], _∷_, Option, some, none, _≡_, refl, _∙_, ℕ, zero, suc, _+_, _*_, _<_, _≤_, _/_, _%_, arith, eqb, length}
 use Rattle.lists.specs.Basics.{getD, List·getD-eq-default}
-use Rattle.lists.specs.Lists.{allb}
+use Rattle.lists.specs.{Lists.allb, Tests.either}
 use Rattle.protocol.specs.Frames.{Line, digit, pair, bytes}
 use Rattle.frames.specs.Decode.{or-zero, is-some, digit-value, is-digit, pairs, decoded, is-hexadecimal}
 
@@ -33,13 +33,9 @@ decoded-end l i h = List·getD-eq-default (decoded l) 0 {n = i} (omega (arith, l
 bytes-pair : (a b : Option ℕ) (e h : Bool) (d : List ℕ)
     → pair a b (cond (e && h) (some d) none) ≡ cond (e && (is-some a && (is-some b && h))) (some ((or-zero a * 16 + or-zero b) ∷ d)) none
 unfolding pair is-some or-zero
-bytes-pair none b true h d = refl
-bytes-pair none b false h d = refl
-bytes-pair (some a) none true h d = refl
-bytes-pair (some a) none false h d = refl
-bytes-pair (some a) (some b) true true d = refl
-bytes-pair (some a) (some b) true false d = refl
-bytes-pair (some a) (some b) false h d = refl
+bytes-pair none b e h d = rw (and-false e)
+bytes-pair (some a) none e h d = rw (and-false e)
+bytes-pair (some a) (some b) e h d = either (e && h) (λ t. rw t) (λ t. rw t)
 
 pub bytes-decoded : (l : Line) → bytes l ≡ cond (is-hexadecimal l) (some (decoded l)) none
 unfolding bytes is-hexadecimal allb decoded pairs digit-value is-digit

@@ -1,90 +1,50 @@
 -- A line by its kind's two characters, and by the sum of those behind them.
-use Rattle.lists.specs.Basics.{Bool, true, false, _&&_, and-false, and-assoc, List, [], _∷_, none, _≡_, refl, sym, _∙_, ℕ, suc, _+_, _*_, _<_, _≤_, _/_, _%_, arith, eq-eqb, ne-eqb}
-use Rattle.lists.specs.Basics.{eqb, length, getD, drop, length-drop, drop-of-length-le, drop-cons}
+use Rattle.lists.specs.Basics.{false, and-false, and-assoc, List, [], _∷_, _⊎_, inl, inr, _≡_, ℕ, zero, suc, _+_, _*_, _<_, _≤_, _%_, _/_, arith, eq-eqb, eqb}
+use Rattle.lists.specs.Basics.{length, getD, drop, drop-of-length-le, drop-cons}
 use Rattle.lists.specs.Lists.{allb}
 use Rattle.protocol.specs.Frames.{Line, parts}
-use Rattle.frames.specs.{Decode.{is-digit, pairs, decoded, is-hexadecimal}, Codes.{no-digit, codes, total}}
-use Rattle.frames.specs.{CodeLaws.{Judged, judge, judge-pair, judged-true, judged-small, judged-false}, Read.behind-kind}
+use Rattle.frames.specs.{Decode.{is-digit, pairs, decoded, is-hexadecimal}, DecodeLaws.length-pairs, Codes.{no-digit, digit-code, codes, total}}
+use Rattle.frames.specs.{CodeLaws.{Judged, judge, paired}, Read.{read-as, behind-kind}, declared.Frame.the-variants.Garbled}
 
-pub hexadecimal-odd : (l : Line) → (length l % 2 ≡ 0 → ⊥) → is-hexadecimal l ≡ false
-unfolding is-hexadecimal
-hexadecimal-odd l h = rw (ne-eqb _ 0 h)
+-- ---- the kind: both are digits, and the rest decides; or one is none
+pub kind-judged : (l : Line) → 2 ≤ length l → (k : ℕ) → k ≡ getD (codes l) 0 0
+    → ((k ≤ 255) × (is-hexadecimal l ≡ is-hexadecimal (drop 2 l))) ⊎ ((no-digit ≤ k) × (is-hexadecimal l ≡ false))
+unfolding is-hexadecimal allb codes pairs
+kind-judged [] h k e = absurd (omega arith)
+kind-judged (x ∷ []) h k e = absurd (omega arith)
+kind-judged (x ∷ y ∷ l) h k e =
+    let even : suc (suc (length l)) % 2 ≡ length l % 2 = omega arith in
+    let regroup = and-assoc (is-digit x) (is-digit y) (allb is-digit l) in
+    elim (paired x y .judged) [
+      | inl p ↦ inl (omega arith, rw (even, ← regroup, p .0))
+      | inr p ↦ inr (omega arith, rw (even, ← regroup, p .0) (and-false (eqb (length l % 2) 0)))
+    ]
 
-pub hexadecimal-even : (l : Line) → length l % 2 ≡ 0 → is-hexadecimal l ≡ allb is-digit l
-unfolding is-hexadecimal
-hexadecimal-even l h = rw (eq-eqb _ 0 h)
+-- ---- behind the kind: n codes from the i-th on, added up
+unfoldable pub sum-of : List ℕ → ℕ → ℕ → ℕ
+sum-of b i zero = 0
+sum-of b i (suc n) = getD b i 0 + sum-of b (suc i) n
 
--- ---- the kind
-has-kind : Line → Bool
-has-kind l = is-digit (getD l 0 0) && is-digit (getD l 1 0)
+total-sum : (b : List ℕ) (i n : ℕ) → length b ≡ i + n → total (drop i b) ≡ sum-of b i n
+unfolding total sum-of
+total-sum b i zero h = rw (drop-of-length-le b {i = i} (omega arith))
+total-sum b i (suc n) h = rw (drop-cons b i 0 (omega arith), total-sum b (suc i) n (omega arith))
 
-judge-kind : (l : Line) → 2 ≤ length l → Judged (has-kind l) (getD (codes l) 0 0) 255
-unfolding has-kind codes pairs
-judge-kind [] h = absurd (omega arith)
-judge-kind (x ∷ []) h = absurd (omega arith)
-judge-kind (x ∷ y ∷ l) h = judge-pair x y
+judge-behind : (l : Line) (n : ℕ) → length l ≡ 2 * suc n → Judged (is-hexadecimal (drop 2 l)) (sum-of (codes l) 1 n) (255 * n)
+unfolding is-hexadecimal codes pairs
+judge-behind [] n long = absurd (omega arith)
+judge-behind (x ∷ []) n long = absurd (omega arith)
+judge-behind (x ∷ y ∷ l) n long =
+    let half : length l / 2 ≡ n = omega arith in
+    let even : length l % 2 ≡ 0 = omega arith in
+    let sum = total-sum (codes (x ∷ y ∷ l)) 1 n (omega (arith, length-pairs digit-code l)) in
+    rw (← sum, eq-eqb (length l % 2) 0 even, ← half) (judge l even)
 
-kind-first : (l : Line) → 2 ≤ length l → is-hexadecimal l ≡ (has-kind l && is-hexadecimal (drop 2 l))
-unfolding has-kind is-hexadecimal allb
-kind-first [] h = absurd (omega arith)
-kind-first (x ∷ []) h = absurd (omega arith)
-kind-first (x ∷ y ∷ l) h =
-    let e : suc (suc (length l)) % 2 ≡ length l % 2 = omega arith in
-    rw e (go (eqb (length l % 2) 0) (is-digit x) (is-digit y) (allb is-digit l))
-  where
-    go : (a b c d : Bool) → (a && (b && (c && d))) ≡ (b && c && (a && d))
-    go true b c d = sym (and-assoc b c d)
-    go false b c d = sym (and-false (b && c))
+module _ (l : Line) (k n t : ℕ) (long : length l ≡ 2 * suc n) where
+  pub behind-none : no-digit ≤ t → n ≤ 5 → t ≡ sum-of (codes l) 1 n → Garbled ≡ read-as (behind-kind l k)
+  unfolding behind-kind read-as
+  behind-none h few e = elim (judge-behind l n long) [ inl p ↦ absurd (omega arith) | inr p ↦ rw (p .0) ]
 
-module _ (l : Line) (h : 2 ≤ length l) where
-  pub kind-digits : getD (codes l) 0 0 < no-digit → is-hexadecimal l ≡ is-hexadecimal (drop 2 l)
-  kind-digits c = kind-first l h ∙ rw (judged-true _ _ _ (judge-kind l h) c)
-
-  pub kind-small : getD (codes l) 0 0 < no-digit → getD (codes l) 0 0 ≤ 255
-  kind-small c = judged-small _ _ _ (judge-kind l h) c
-
-  pub kind-no-digit : no-digit ≤ getD (codes l) 0 0 → is-hexadecimal l ≡ false
-  kind-no-digit c = kind-first l h ∙ rw (judged-false _ _ _ (judge-kind l h) (omega arith) c)
-
--- ---- behind the kind
-codes-behind : (l : Line) → codes (drop 2 l) ≡ drop 1 (codes l)
-unfolding codes pairs
-codes-behind [] = refl
-codes-behind (x ∷ []) = refl
-codes-behind (x ∷ y ∷ l) = refl
-
-module _ (l : Line) (k : ℕ) (even : length l % 2 ≡ 0) where
-  even-behind : length (drop 2 l) % 2 ≡ 0
-  even-behind = omega (arith, length-drop 2 l)
-
-  judge-behind : Judged (is-hexadecimal (drop 2 l)) (total (drop 1 (codes l))) (255 * (length (drop 2 l) / 2))
-  judge-behind = rw (← codes-behind l, hexadecimal-even (drop 2 l) even-behind) (judge (drop 2 l) even-behind)
-
-  pub behind-none : length l ≤ 12 → no-digit ≤ total (drop 1 (codes l)) → behind-kind l k ≡ none
+  pub behind-parts : t < no-digit → t ≡ sum-of (codes l) 1 n → behind-kind l k ≡ parts (decoded l) k
   unfolding behind-kind
-  behind-none h s = rw (judged-false _ _ _ judge-behind (omega (arith, length-drop 2 l)) s)
-
-  pub behind-parts : total (drop 1 (codes l)) < no-digit → behind-kind l k ≡ parts (decoded l) k
-  unfolding behind-kind
-  behind-parts s = rw (judged-true _ _ _ judge-behind s)
-
--- the sum, one code after the other
-total-at : (b : List ℕ) (i : ℕ) → i < length b → total (drop i b) ≡ getD b i 0 + total (drop (suc i) b)
-unfolding total
-total-at b i h = rw (drop-cons b i 0 h)
-
-total-end : (b : List ℕ) (i : ℕ) → length b ≤ i → total (drop i b) ≡ 0
-unfolding total
-total-end b i h = rw (drop-of-length-le b {i = i} h)
-
-module _ (b : List ℕ) where
-  pub sum-one : length b ≡ 2 → total (drop 1 b) ≡ getD b 1 0
-  sum-one h = omega (arith, total-at b 1 (omega arith), total-end b 2 (omega arith))
-
-  pub sum-four : length b ≡ 5 → total (drop 1 b) ≡ getD b 1 0 + getD b 2 0 + getD b 3 0 + getD b 4 0
-  sum-four h =
-      omega (arith, total-at b 1 (omega arith), total-at b 2 (omega arith), total-at b 3 (omega arith), total-at b 4 (omega arith), total-end b 5 (omega arith))
-
-  pub sum-five : length b ≡ 6 → total (drop 1 b) ≡ getD b 1 0 + getD b 2 0 + getD b 3 0 + getD b 4 0 + getD b 5 0
-  sum-five h =
-      omega (arith, total-at b 1 (omega arith), total-at b 2 (omega arith), total-at b 3 (omega arith), total-at b 4 (omega arith), total-at b 5 (omega arith), total-end b 6 (omega arith))
+  behind-parts h e = elim (judge-behind l n long) [ inl p ↦ rw (p .0) | inr p ↦ absurd (omega arith) ]

@@ -20,12 +20,9 @@ all-entries : below single-entry 23 ≡ true
 unfolding below single-entry least-length least
 all-entries = refl
 
-small-entry : ℕ → Bool
-small-entry k = leb (least-length k) 6
-
 pub least-small : (k m : ℕ) → k ≤ 22 → m ≡ least-length k → m ≤ 6
-unfolding below small-entry least-length least
-least-small k m h e = rw e (leb-true (least-length k) 6 (below-at small-entry 23 k refl (omega arith)))
+unfolding below least-length least
+least-small k m h e = rw e (leb-true (least-length k) 6 (below-at (λ k. leb (least-length k) 6) 23 k refl (omega arith)))
 
 -- the kinds but 01, 10 and 11
 module _ (n k : ℕ) (z : Sized n k) (b : k ≡ 16 → ⊥) (c : k ≡ 17 → ⊥) where

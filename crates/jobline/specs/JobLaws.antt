@@ -1,51 +1,41 @@
--- What the range of a job says, number by number.
-use Rattle.lists.specs.Basics.{true, _&&_, List, [], _∷_, here, there, ⊎-elim, _≡_, ℕ, zero, suc, _+_, _<_, _≤_, arith, le-leb, leb}
-use Rattle.lists.specs.{Lists.{_∈_, allb, allb-true, keep, mem-keep}, Tests.{lt?, and-l, and-r}}
-use Rattle.protocol.specs.{Frames.between, Job.{machines-of, chares-of, buddy-in-range, chare-in-range, job-in-range}, Parts.{every-machine, every-chare}}
+-- No number of a job in range is above its bound.
+use Rattle.lists.specs.Basics.{true, List, _≡_, ℕ, _≤_, arith, le-leb, leb-true, eqb, leb}
+use Rattle.lists.specs.{Lists.{allb-true, mem-keep}, Tests.{either, and-l, and4}}
+use Rattle.protocol.specs.Job.{machines-of, chares-of, buddy-byte, chare-byte, buddy-in-range, chare-in-range, job-in-range, job-of, has-machine, has-chare, previous-machine}
+use Rattle.protocol.specs.{Frames.between, Recovery.Frames.Job.{machine-known, chare-known}}
 use Rattle.frames.specs.Range.{Between, between-true}
+use Rattle.jobline.specs.Passes.{number-of}
 
--- ---- every number from 1 on is in the list
-from-one : (n k : ℕ) → List ℕ
-from-one zero k = []
-from-one (suc n) k = k ∷ from-one n (suc k)
-
-mem-from : (n k x : ℕ) → k ≤ x → x < n + k → x ∈ from-one n k
-unfolding from-one
-mem-from zero k x h r = absurd (omega arith)
-mem-from (suc n) k x h r = ⊎-elim (λ q. there (mem-from n (suc k) x q (omega arith))) (λ q. here (eq q)) (lt? k x)
-  where
-    eq : x ≤ k → x ≡ k
-    eq q = omega arith
-
-pub mem-machine : (p : ℕ) → 1 ≤ p → p ≤ 6 → p ∈ every-machine
-unfolding every-machine from-one
-mem-machine p h r = mem-from 6 1 p h (omega arith)
-
-pub mem-chare : (c : ℕ) → 1 ≤ c → c ≤ 12 → c ∈ every-chare
-unfolding every-chare from-one
-mem-chare c h r = mem-from 12 1 c h (omega arith)
-
--- ---- what the range says
 pub record InRange (b : List ℕ) : Type 0 where
   pub machines : Between 2 6 (machines-of b)
   pub chares : Between 1 12 (chares-of b)
-  pub buddies : (p : ℕ) → Between 1 (machines-of b) p → buddy-in-range b p ≡ true
-  pub numbers : (c : ℕ) → Between 1 (chares-of b) c → chare-in-range b c ≡ true
+  pub buddies : (p : ℕ) → job-of b .buddy p ≤ 6
+  pub numbers : (c : ℕ) → (number-of b 0 c ≤ 6) × (number-of b 1 c ≤ 12) × (number-of b 2 c ≤ 12)
 
 pub in-range : (b : List ℕ) → job-in-range b ≡ true → InRange b
-unfolding job-in-range
+unfolding job-in-range job-of number-of has-machine has-chare buddy-in-range chare-in-range previous-machine between
 in-range b e =
-    let m = between 2 6 (machines-of b) in
-    let c = between 1 12 (chares-of b) in
-    let bs = allb (buddy-in-range b) (keep (λ p. leb p (machines-of b)) every-machine) in
-    let cs = allb (chare-in-range b) (keep (λ c. leb c (chares-of b)) every-chare) in
-    let e3 = and-l (m && c && bs) cs e in
-    let e2 = and-l (m && c) bs e3 in
-    let hm = between-true 2 6 _ (and-l m c e2) in
-    let hc = between-true 1 12 _ (and-r m c e2) in
+    let (m, n, bs, cs) = and4 _ _ _ _ e in
+    let machines = between-true 2 6 (machines-of b) m in
+    let chares = between-true 1 12 (chares-of b) n in
     record {
-      machines = hm;
-      chares = hc;
-      buddies = λ p r. allb-true _ _ (and-r (m && c) bs e3) p (mem-keep _ (mem-machine p (r .low) (omega arith)) (le-leb _ _ (r .high)));
-      numbers = λ x r. allb-true _ _ (and-r (m && c && bs) cs e) x (mem-keep _ (mem-chare x (r .low) (omega arith)) (le-leb _ _ (r .high)));
+      machines = machines;
+      chares = chares;
+      buddies = λ p. either (has-machine b p)
+          (λ h.
+          let k = between-true 1 (machines-of b) p h in
+          let asked : buddy-in-range b p ≡ true = allb-true _ _ bs p (mem-keep _ (machine-known p (k .low) (omega arith)) (le-leb _ _ (k .high))) in
+          let top = leb-true (buddy-byte b p) (machines-of b) (and-l _ _ asked) in
+          either (eqb (buddy-byte b p) 0)
+          (λ z. either (eqb p 1) (λ f. rw (h, z, f) (omega arith)) (λ f. rw (h, z, f) (omega arith)))
+          (λ z. rw (h, z) (omega arith)))
+          (λ h. rw h (omega arith));
+      numbers = λ c. either (has-chare b c)
+          (λ h.
+          let k = between-true 1 (chares-of b) c h in
+          let asked : chare-in-range b c ≡ true = allb-true _ _ cs c (mem-keep _ (chare-known c (k .low) (omega arith)) (le-leb _ _ (k .high))) in
+          let x = chare-byte b c in
+          let (low, home, first, second) = and4 (leb 1 (x 0)) (leb (x 0) (machines-of b)) (leb (x 1) (chares-of b)) (leb (x 2) (chares-of b)) asked in
+          rw h (omega (arith, leb-true)))
+          (λ h. rw h (omega arith));
     }

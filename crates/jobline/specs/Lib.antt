@@ -1,5 +1,3 @@
 -- What the contracts of jobline say, and the laws behind them.
 pub mod Passes
 pub mod JobLaws
-pub mod JobCode
-pub mod Bounds

@@ -1,55 +1,41 @@
 -- `frames::deliver` meets its contract: five codes, judged by their sum.
-use Rattle.lists.specs.Basics.{needs}
-use Rattle.frames.specs.{CodeLaws.pair-small, FieldLaws.{deliver-none, deliver-fields}}
+use Rattle.lists.specs.Basics.{arith, needs}
+use Rattle.protocol.specs.Frames.{parts, two-bytes}
+use Rattle.frames.specs.{CodeLaws.coded-at, KindLaws.{sum-of, behind-none, behind-parts}, Read.read-as}
 use Rattle.frames.proofs.deliver.Statement.{statement}
 use Rattle.frames.proofs.deliver.Tie as tie
 
 add-if1 : tie.Need-add-if1
 add-if1 c =
-    let h1 = pair-small _ _ _ (c .before .before .before .before .pair .ensures) in
-    let h2 = pair-small _ _ _ (c .before .before .before .pair2 .ensures) in
-    search needs
+    let l = c .before .before .before .before .before .before .args .line .now in
+    omega (arith, coded-at l 1 .1, coded-at l 2 .1)
 
 add-if1-2 : tie.Need-add-if1-2
 add-if1-2 c =
-    let h1 = pair-small _ _ _ (c .before .before .before .before .pair .ensures) in
-    let h2 = pair-small _ _ _ (c .before .before .before .pair2 .ensures) in
-    let h3 = pair-small _ _ _ (c .before .before .pair3 .ensures) in
-    search needs
+    let l = c .before .before .before .before .before .before .args .line .now in
+    omega (arith, coded-at l 1 .1, coded-at l 2 .1, coded-at l 3 .1)
 
 add-if1-3 : tie.Need-add-if1-3
 add-if1-3 c =
-    let h1 = pair-small _ _ _ (c .before .before .before .before .pair .ensures) in
-    let h2 = pair-small _ _ _ (c .before .before .before .pair2 .ensures) in
-    let h3 = pair-small _ _ _ (c .before .before .pair3 .ensures) in
-    let h4 = pair-small _ _ _ (c .before .pair4 .ensures) in
-    search needs
+    let l = c .before .before .before .before .before .before .args .line .now in
+    omega (arith, coded-at l 1 .1, coded-at l 2 .1, coded-at l 3 .1, coded-at l 4 .1)
 
 add-if1-4 : tie.Need-add-if1-4
 add-if1-4 c =
-    let h1 = pair-small _ _ _ (c .before .before .before .before .pair .ensures) in
-    let h2 = pair-small _ _ _ (c .before .before .before .pair2 .ensures) in
-    let h3 = pair-small _ _ _ (c .before .before .pair3 .ensures) in
-    let h4 = pair-small _ _ _ (c .before .pair4 .ensures) in
-    let h5 = pair-small _ _ _ (c .pair5 .ensures) in
-    search needs
+    let l = c .before .before .before .before .before .before .args .line .now in
+    omega (arith, coded-at l 1 .1, coded-at l 2 .1, coded-at l 3 .1, coded-at l 4 .1, coded-at l 5 .1)
 
 returns : tie.Need-returns
-returns c =
-    let p = c .before in
-    deliver-none _ _ _ _ _ _ (p .before .before .before .before .before .before .pre)
-    (p .before .before .before .before .pair .ensures) (p .before .before .before .pair2 .ensures) (p .before .before .pair3 .ensures) (p .before .pair4 .ensures) (p .pair5 .ensures)
-    (c .if1 .taken)
+unfolding sum-of
+returns c = behind-none _ _ 5 _ (c .before .before .before .before .before .before .before .pre) (c .if1 .taken) (omega arith) (omega arith)
 
 returns-2 : tie.Need-returns-2
+unfolding read-as parts two-bytes sum-of
 returns-2 c =
-    let n = c .before in
-    let e = n .before .before .before .before .before in
-    let p = e .before in
-    rw (c .two-bytes .ensures, n .narrow5 .ensures, n .before .narrow4 .ensures, n .before .before .narrow3 .ensures, n .before .before .before .narrow2 .ensures, n .before .before .before .before .narrow .ensures)
-    (deliver-fields _ _ _ _ _ _ (p .before .before .before .before .before .before .pre)
-    (p .before .before .before .before .pair .ensures) (p .before .before .before .pair2 .ensures) (p .before .before .pair3 .ensures) (p .before .pair4 .ensures) (p .pair5 .ensures)
-    (e .if1 .left))
+    let e = c .before .before .before .before .before .before in
+    let s = e .before .before .before .before .before .before .before in
+    let l = s .args .line .now in
+    cc (behind-parts l 0x11 5 _ (s .pre) (e .if1 .left) (omega arith), coded-at l 1 .0, coded-at l 2 .0, coded-at l 3 .0, coded-at l 4 .0, coded-at l 5 .0)
 
 pub deliver-spec : {M : Type 1} → statement M
 deliver-spec =

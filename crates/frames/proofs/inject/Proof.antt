@@ -1,46 +1,36 @@
 -- `frames::inject` meets its contract: four codes, judged by their sum.
-use Rattle.lists.specs.Basics.{needs}
-use Rattle.frames.specs.{CodeLaws.pair-small, FieldLaws.{inject-none, inject-fields}}
+use Rattle.lists.specs.Basics.{arith, needs}
+use Rattle.protocol.specs.Frames.{parts, two-bytes}
+use Rattle.frames.specs.{CodeLaws.coded-at, KindLaws.{sum-of, behind-none, behind-parts}, Read.read-as}
 use Rattle.frames.proofs.inject.Statement.{statement}
 use Rattle.frames.proofs.inject.Tie as tie
 
 add-if1 : tie.Need-add-if1
 add-if1 c =
-    let a = pair-small _ _ _ (c .before .before .before .pair .ensures) in
-    let b = pair-small _ _ _ (c .before .before .pair2 .ensures) in
-    search needs
+    let l = c .before .before .before .before .before .args .line .now in
+    omega (arith, coded-at l 1 .1, coded-at l 2 .1)
 
 add-if1-2 : tie.Need-add-if1-2
 add-if1-2 c =
-    let a = pair-small _ _ _ (c .before .before .before .pair .ensures) in
-    let b = pair-small _ _ _ (c .before .before .pair2 .ensures) in
-    let d = pair-small _ _ _ (c .before .pair3 .ensures) in
-    search needs
+    let l = c .before .before .before .before .before .args .line .now in
+    omega (arith, coded-at l 1 .1, coded-at l 2 .1, coded-at l 3 .1)
 
 add-if1-3 : tie.Need-add-if1-3
 add-if1-3 c =
-    let a = pair-small _ _ _ (c .before .before .before .pair .ensures) in
-    let b = pair-small _ _ _ (c .before .before .pair2 .ensures) in
-    let d = pair-small _ _ _ (c .before .pair3 .ensures) in
-    let e = pair-small _ _ _ (c .pair4 .ensures) in
-    search needs
+    let l = c .before .before .before .before .before .args .line .now in
+    omega (arith, coded-at l 1 .1, coded-at l 2 .1, coded-at l 3 .1, coded-at l 4 .1)
 
 returns : tie.Need-returns
-returns c =
-    let p = c .before in
-    inject-none _ _ _ _ _ (p .before .before .before .before .before .pre)
-    (p .before .before .before .pair .ensures) (p .before .before .pair2 .ensures) (p .before .pair3 .ensures) (p .pair4 .ensures)
-    (c .if1 .taken)
+unfolding sum-of
+returns c = behind-none _ _ 4 _ (c .before .before .before .before .before .before .pre) (c .if1 .taken) (omega arith) (omega arith)
 
 returns-2 : tie.Need-returns-2
+unfolding read-as parts two-bytes sum-of
 returns-2 c =
-    let n = c .before .before in
-    let e = n .before .before .before in
-    let p = e .before in
-    rw (c .narrow4 .ensures, c .before .two-bytes .ensures, n .narrow3 .ensures, n .before .narrow2 .ensures, n .before .before .narrow .ensures)
-    (inject-fields _ _ _ _ _ (p .before .before .before .before .before .pre)
-    (p .before .before .before .pair .ensures) (p .before .before .pair2 .ensures) (p .before .pair3 .ensures) (p .pair4 .ensures)
-    (e .if1 .left))
+    let e = c .before .before .before .before .before in
+    let s = e .before .before .before .before .before .before in
+    let l = s .args .line .now in
+    cc (behind-parts l 0x10 4 _ (s .pre) (e .if1 .left) (omega arith), coded-at l 1 .0, coded-at l 2 .0, coded-at l 3 .0, coded-at l 4 .0)
 
 pub inject-spec : {M : Type 1} → statement M
 inject-spec =

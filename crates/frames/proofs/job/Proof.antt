@@ -1,6 +1,6 @@
 -- `frames::job` meets its contract: the digits first, then the length that two bytes tell.
-use Rattle.lists.specs.Basics.{sym, _∙_, needs, not-true, not-false}
-use Rattle.frames.specs.{Read.job-as, ReadLaws.{job-exact, job-other}}
+use Rattle.lists.specs.Basics.{sym, _∙_, needs, not-true, not-false, eq-eqb, ne-eqb}
+use Rattle.frames.specs.Read.{job-as}
 use Rattle.frames.proofs.job.Statement.{statement}
 use Rattle.frames.proofs.job.Tie as tie
 
@@ -9,22 +9,30 @@ unfolding job-as
 returns c = rw (sym (c .before .is-hexadecimal .ensures) ∙ not-true _ (c .if1 .taken))
 
 returns-2 : tie.Need-returns-2
+unfolding job-as
 returns-2 c =
     let w = c .before .before in
     let h = w .before .before .before .before in
-    job-exact _ _ _ _ (sym (h .before .is-hexadecimal .ensures) ∙ not-false _ (h .if1 .left))
-    (w .before .before .wide .ensures ∙ w .before .before .before .byte .ensures)
-    (w .wide2 .ensures ∙ w .before .byte2 .ensures)
-    (c .if2 .taken ∙ rw (c .before .wide3 .ensures))
+    rw (
+      sym (h .before .is-hexadecimal .ensures) ∙ not-false _ (h .if1 .left),
+      ← (w .before .before .wide .ensures ∙ w .before .before .before .byte .ensures),
+      ← (w .wide2 .ensures ∙ w .before .byte2 .ensures),
+      ← c .before .wide3 .ensures,
+      eq-eqb _ _ (c .if2 .taken),
+    )
 
 returns-3 : tie.Need-returns-3
+unfolding job-as
 returns-3 c =
     let w = c .before .before in
     let h = w .before .before .before .before in
-    job-other _ _ _ _ (sym (h .before .is-hexadecimal .ensures) ∙ not-false _ (h .if1 .left))
-    (w .before .before .wide .ensures ∙ w .before .before .before .byte .ensures)
-    (w .wide2 .ensures ∙ w .before .byte2 .ensures)
-    (λ e. c .if2 .left (e ∙ rw (c .before .wide3 .ensures)))
+    rw (
+      sym (h .before .is-hexadecimal .ensures) ∙ not-false _ (h .if1 .left),
+      ← (w .before .before .wide .ensures ∙ w .before .before .before .byte .ensures),
+      ← (w .wide2 .ensures ∙ w .before .byte2 .ensures),
+      ← c .before .wide3 .ensures,
+      ne-eqb _ _ (c .if2 .left),
+    )
 
 pub job-spec : {M : Type 1} → statement M
 job-spec =

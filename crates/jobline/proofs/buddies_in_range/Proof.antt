@@ -1,8 +1,10 @@
 -- `jobline::buddies_in_range` meets its contract: those before p pass, so the answer is that for the rest.
 use Rattle.lists.specs.Basics.{_≡_, sym, _∙_, _≤_, _-_, arith, needs, not-true, not-false}
+use Rattle.lists.specs.Lists.{allb}
+use Rattle.protocol.specs.Parts.{every-machine}
 use Rattle.frames.specs.Decode.{decoded}
-use Rattle.jobline.specs.{JobCode.each-buddy, Passes.{buddies-in-range, buddy-passes}}
-use Rattle.arrays.specs.Loops.{each, each-hit, each-miss, each-end}
+use Rattle.jobline.specs.Passes.{buddies-in-range, buddy-passes}
+use Rattle.arrays.specs.Loops.{each, each-hit, each-miss, each-end, allb-keep}
 use Rattle.jobline.proofs.buddies_in_range.Statement.{statement}
 use Rattle.jobline.proofs.buddies_in_range.Tie as tie
 
@@ -13,7 +15,8 @@ abbrev μ-loop : tie.MeasureT-loop
 μ-loop line p₀ p = 7 - p
 
 loop-holds : tie.Need-loop-holds Inv-loop μ-loop
-loop-holds c = (search needs, search needs, each-buddy _)
+unfolding buddies-in-range buddy-passes allb each every-machine
+loop-holds c = (search needs, search needs, allb-keep _ _ every-machine)
 
 returns : tie.Need-returns Inv-loop μ-loop
 returns c =

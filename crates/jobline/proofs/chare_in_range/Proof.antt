@@ -1,27 +1,33 @@
 -- `jobline::chare_in_range` meets its contract: test by test.
-use Rattle.lists.specs.Basics.{needs}
-use Rattle.jobline.specs.JobCode.{home-low, home-high, port-high, ports-in}
+use Rattle.lists.specs.Basics.{needs, le-leb, lt-leb}
+use Rattle.protocol.specs.{Frames.between, Job.{machines-of, chares-of, chare-in-range}}
 use Rattle.jobline.proofs.chare_in_range.Statement.{statement}
 use Rattle.jobline.proofs.chare_in_range.Tie as tie
 
 returns : tie.Need-returns
-returns c = home-low _ _ _ (c .before .chare-byte .ensures) (c .if1 .taken)
+unfolding chare-in-range between
+returns c = rw (← c .before .chare-byte .ensures, lt-leb _ _ (c .if1 .taken))
 
 returns-2 : tie.Need-returns-2
-returns-2 c = home-high _ _ _ (c .before .before .before .chare-byte .ensures) _ (c .before .byte .ensures) (c .if2 .taken)
+unfolding chare-in-range between machines-of
+returns-2 c = rw (← c .before .before .before .chare-byte .ensures, ← c .before .byte .ensures, le-leb _ _ (c .before .before .if1 .left), lt-leb _ _ (c .if2 .taken))
 
 returns-3 : tie.Need-returns-3
+unfolding chare-in-range between machines-of chares-of
 returns-3 c =
     let m = c .before .before .before in
     let h = m .before .before in
-    port-high _ _ _ (h .before .chare-byte .ensures) _ (m .before .byte .ensures) (h .if1 .left) (m .if2 .left) _ (c .before .before .byte2 .ensures) _ (c .before .chare-byte2 .ensures) (c .if3 .taken)
+    rw (← h .before .chare-byte .ensures, ← m .before .byte .ensures, le-leb _ _ (h .if1 .left), le-leb _ _ (m .if2 .left))
+    (rw (← c .before .before .byte2 .ensures, ← c .before .chare-byte2 .ensures, lt-leb _ _ (c .if3 .taken)))
 
 returns-4 : tie.Need-returns-4
+unfolding chare-in-range between machines-of chares-of
 returns-4 c =
     let p = c .before in
     let m = p .before .before .before in
     let h = m .before .before in
-    ports-in _ _ _ (h .before .chare-byte .ensures) _ (m .before .byte .ensures) (h .if1 .left) (m .if2 .left) _ (p .before .before .byte2 .ensures) _ (p .before .chare-byte2 .ensures) (p .if3 .left) _ (c .chare-byte3 .ensures)
+    rw (← h .before .chare-byte .ensures, ← m .before .byte .ensures, le-leb _ _ (h .if1 .left), le-leb _ _ (m .if2 .left))
+    (rw (← p .before .before .byte2 .ensures, ← p .before .chare-byte2 .ensures, le-leb _ _ (p .if3 .left), ← c .chare-byte3 .ensures))
 
 pub chare-in-range-spec : {M : Type 1} → statement M
 chare-in-range-spec =

@@ -1,8 +1,10 @@
 -- `jobline::chares_in_range` meets its contract: those before c pass, so the answer is that for the rest.
 use Rattle.lists.specs.Basics.{_≡_, sym, _∙_, _≤_, _-_, arith, needs, not-true, not-false}
+use Rattle.lists.specs.Lists.{allb}
+use Rattle.protocol.specs.Parts.{every-chare}
 use Rattle.frames.specs.Decode.{decoded}
-use Rattle.jobline.specs.{JobCode.each-chare, Passes.{chares-in-range, chare-passes}}
-use Rattle.arrays.specs.Loops.{each, each-hit, each-miss, each-end}
+use Rattle.jobline.specs.Passes.{chares-in-range, chare-passes}
+use Rattle.arrays.specs.Loops.{each, each-hit, each-miss, each-end, allb-keep}
 use Rattle.jobline.proofs.chares_in_range.Statement.{statement}
 use Rattle.jobline.proofs.chares_in_range.Tie as tie
 
@@ -13,7 +15,8 @@ abbrev μ-loop : tie.MeasureT-loop
 μ-loop line c₀ c = 13 - c
 
 loop-holds : tie.Need-loop-holds Inv-loop μ-loop
-loop-holds c = (search needs, search needs, each-chare _)
+unfolding chares-in-range chare-passes allb each every-chare
+loop-holds c = (search needs, search needs, allb-keep _ _ every-chare)
 
 returns : tie.Need-returns Inv-loop μ-loop
 returns c =

@@ -1,16 +1,20 @@
 -- `opening::begin` meets its contract: zeros, the head over them, the chares' states.
-use Rattle.lists.specs.Basics.{_∙_, needs}
+use Rattle.lists.specs.Basics.{_∙_, arith, needs}
+use Rattle.protocol.specs.Job.{chares-of}
+use Rattle.jobline.specs.JobLaws.{in-range}
 use Rattle.store.specs.ViewLaws.{head-length}
-use Rattle.opening.specs.Begun.{chares-few, begins}
+use Rattle.opening.specs.Begun.{begins}
 use Rattle.opening.proofs.begin.Statement.{statement}
 use Rattle.opening.proofs.begin.Tie as tie
 
 start-chares-requires : tie.Need-start-chares-requires
+unfolding chares-of
 start-chares-requires c κs =
     let h = c .before .before .before .before in
     let k = h .before .before .before .before in
     let st = k .before .before .before .before in
-    (head-length (k .clear .last .0) (k .clear .kept .0 ∙ st .pre .0) (h .write-head .last .0) (h .write-head .ensures .size), chares-few _ (st .pre .1) _ (c .byte .ensures))
+    let r = in-range _ (st .pre .1) in
+    (head-length (k .clear .last .0) (k .clear .kept .0 ∙ st .pre .0) (h .write-head .last .0) (h .write-head .ensures .size), omega (arith, r .chares, c .byte .ensures))
 
 returns : tie.Need-returns
 returns c =

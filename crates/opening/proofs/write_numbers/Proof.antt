@@ -1,6 +1,6 @@
 -- `opening::write_numbers` meets its contract: three words over zeros.
 use Rattle.lists.specs.Basics.{arith, needs, length-set}
-use Rattle.opening.specs.Words.{numbers-written}
+use Rattle.opening.specs.Words.{numbered}
 use Rattle.opening.proofs.write_numbers.Statement.{statement}
 use Rattle.opening.proofs.write_numbers.Tie as tie
 
@@ -11,10 +11,11 @@ slice-write-h-3 c =
     simp length-set (omega (arith, k .clear .kept .0, st .pre))
 
 returns : tie.Need-returns
+unfolding numbered
 returns c =
     let k = c .before .before .before .before in
     let st = k .before .before .before .before in
-    numbers-written _ _ _ _ _ (k .clear .ensures) (st .pre) (c .before .byte .ensures) (c .byte2 .ensures)
+    rw (k .clear .ensures, st .pre, c .before .byte .ensures, c .byte2 .ensures)
 
 pub write-numbers-spec : {M : Type 1} → statement M
 write-numbers-spec =

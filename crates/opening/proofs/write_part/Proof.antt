@@ -2,7 +2,7 @@
 use Rattle.lists.specs.Basics.{_≡_, refl, _-_, _≤_, arith, needs, length, length-set}
 use Rattle.frames.specs.Decode.{decoded}
 use Rattle.head.specs.Cells.{Filled, fill-more, fill-end}
-use Rattle.opening.specs.Words.{word-of, fill-none}
+use Rattle.opening.specs.Words.{word-of}
 use Rattle.opening.proofs.write_part.Statement.{statement}
 use Rattle.opening.proofs.write_part.Tie as tie
 
@@ -13,7 +13,8 @@ abbrev μ-loop : tie.MeasureT-loop
 μ-loop a₀ line which k₀ a k = length a₀ - k
 
 loop-holds : tie.Need-loop-holds Inv-loop μ-loop
-loop-holds c = (search needs, refl, fill-none _ _)
+unfolding Filled
+loop-holds c = (search needs, refl, λ j h. absurd (omega arith))
 
 loop-again : tie.Need-loop-again Inv-loop μ-loop
 loop-again c =
