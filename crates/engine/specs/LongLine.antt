@@ -1,9 +1,9 @@
 -- No frame has more than 1,023 bytes: a line of more than 2,046 characters is refused with 1.
-use Rattle.lists.specs.Basics.{true, not, _&&_, List, [], _∷_, inl, inr, none, _≡_, refl, ℕ, zero, suc, _<_, _≤_, _%_, arith, leb-true, eqb-true, eqb, leb, length, getD}
-use Rattle.lists.specs.{Lists.allb, Tests.{either, eq?, and-l, and-r, true-not-false}}
+use Rattle.lists.specs.Basics.{true, not, _&&_, List, [], _∷_, none, _≡_, refl, ℕ, zero, suc, _<_, _≤_, _%_, arith, leb-true, eqb-true, eqb, leb, length, getD}
+use Rattle.lists.specs.{Lists.allb, Tests.{either, and-l, and-r}}
 use Rattle.protocol.specs.{declared.Answer.the-variants.Refused, Parts.State}
 use Rattle.protocol.specs.{Frames.{Line, least, least-length, exact-length, is-whole, frame-of, frame}, Step.{step, step-frame}}
-use Rattle.frames.specs.{Decode.{decoded, is-hexadecimal}, DecodeLaws.{length-decoded, bytes-decoded}, CodeLaws.decoded-codes, KindLaws.hexadecimal-odd}
+use Rattle.frames.specs.{Decode.{decoded, is-hexadecimal}, DecodeLaws.{length-decoded, bytes-decoded}, CodeLaws.coded-at}
 
 none-above : (m : ℕ) (l : List ℕ) → allb (λ x. leb x m) l ≡ true → (k : ℕ) → getD l k 0 ≤ m
 unfolding allb
@@ -17,7 +17,7 @@ module _ (l : Line) where
   unfolding exact-length least-length least allb
   exact-small =
       either (eqb (getD (decoded l) 0 0) 1)
-      (λ e. rw e (omega (arith, decoded-codes l 1, decoded-codes l 2)))
+      (λ e. rw e (omega (arith, coded-at l 1, coded-at l 2)))
       (λ e. rw e (omega (arith, none-above 6 least refl (getD (decoded l) 0 0))))
 
   exact : is-whole (decoded l) ≡ true → length (decoded l) ≡ exact-length (decoded l)
@@ -25,7 +25,8 @@ module _ (l : Line) where
   exact e = eqb-true _ _ (and-r (not (eqb (least-length (getD (decoded l) 0 0)) 0) && leb (least-length (getD (decoded l) 0 0)) (length (decoded l))) _ e)
 
   even : is-hexadecimal l ≡ true → length l % 2 ≡ 0
-  even e = elim (eq? (length l % 2) 0) [ inl z ↦ z | inr h ↦ true-not-false e (hexadecimal-odd l h) ]
+  unfolding is-hexadecimal
+  even e = eqb-true _ 0 (and-l _ _ e)
 
   no-frame : 2046 < length l → frame l ≡ none
   unfolding frame frame-of
