@@ -8,7 +8,7 @@ use std::path::Path;
 fn every_vector() {
     let folder = Path::new(env!("CARGO_MANIFEST_DIR")).join("tests/vectors");
     let mut seen = 0;
-    for number in 1..=36 {
+    for number in 1..=41 {
         let read = |end: &str| fs::read(folder.join(format!("{number:02}.{end}"))).unwrap();
         let (want, got) = (read("out"), answer_all(&read("in")));
         let lines = |bytes: &[u8]| String::from_utf8(bytes.to_vec()).unwrap();
@@ -18,5 +18,5 @@ fn every_vector() {
         assert_eq!(got, want, "list {number:02}");
         seen += 1;
     }
-    assert_eq!(seen, 36);
+    assert_eq!(seen, 41);
 }
