@@ -5,4 +5,9 @@ pub mod Invariant
 pub mod Steps
 pub mod Frames
 pub mod Conclusion
+pub mod Along
+pub mod LostFlag
+pub mod Holes
+pub mod Numbers
 pub mod Theorem
+pub mod Witness

@@ -7,7 +7,7 @@ use mathlib.Core.Option.{Option, some, none}
 use Prim.Native.Nat.{ℕ, suc, _+_, _-_}
 use lib.Dec.{eqb}
 use lib.ListN.{getD}
-use Rattle.lists.specs.Questions.{asks}
+use Rattle.lists.specs.Questions.{put-all}
 use Rattle.protocol.specs.declared.Answer.{Answer}
 use Rattle.protocol.specs.declared.Answer.the-variants.{Refused}
 use Rattle.protocol.specs.Parts.{Job, State}
@@ -53,7 +53,7 @@ begin-before b = let s = begin b in record {
 
 -- a frame, a line and a list by that reading: only what an accepted job begins differs
 unfoldable pub play-before : State → Frame → Outcome
-play-before s (job b) = judged s (asks 2 (questions s (job b)) (accept (begin-before b)))
+play-before s (job b) = judged s (put-all (questions s (job b)) (accept (begin-before b)))
 play-before s (inject c value hops) = play s (inject c value hops)
 play-before s (deliver k a r n) = play s (deliver k a r n)
 play-before s (work c) = play s (work c)

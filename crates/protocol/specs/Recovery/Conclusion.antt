@@ -12,7 +12,8 @@ use Rattle.protocol.specs.declared.Status.the-variants.{Up, Down}
 use Rattle.protocol.specs.Parts.{Memory, State}
 use Rattle.protocol.specs.Crash.{is-normal}
 use Rattle.protocol.specs.CrashFree.{Run}
-use Rattle.protocol.specs.Demand3.{History, Quiet, Has, Agrees}
+use Rattle.protocol.specs.History.{History}
+use Rattle.protocol.specs.Demand3.{Normal, Has, Agrees}
 use Rattle.protocol.specs.Recovery.Run.Fold.{folded}
 use Rattle.protocol.specs.Recovery.Run.Facts.{RunOk, unworked-sent, unworked-new}
 use Rattle.protocol.specs.Recovery.Run.Laws.{run-ok}
@@ -29,17 +30,17 @@ pub record Ranged (s : State) : Type 0 where
   pub known : (p : ℕ) → s .status p ≢ Up → (1 ≤ p) × (p ≤ s .job .machines)
   pub six : s .job .machines ≤ 6
 
-pub quiet-up : {s : State} → Ranged s → Quiet s → (p : ℕ) → s .status p ≡ Up
+pub quiet-up : {s : State} → Ranged s → Normal s → (p : ℕ) → s .status p ≡ Up
 unfolding is-normal
 quiet-up {s} ranged quiet p = elim (up? (s .status p)) [
   | inl e ↦ e
-  | inr d ↦ let (a, b) = ranged .known p d in neither-up (s .status p) (quiet .normal p a b)
+  | inr d ↦ let (a, b) = ranged .known p d in neither-up (s .status p) (quiet p a b)
 ]
 
 pub carried-ok : {s : State} {h : History} (c : Carried s h) → RunOk (s .job) (c .run)
 carried-ok {s} {h} c = run-ok (s .job) (h .injections) (c .works) (c .run) (c .chares) (c .is-run)
 
-module _ {s : State} {h : History} (c : Carried s h) (ranged : Ranged s) (quiet : Quiet s) where
+module _ {s : State} {h : History} (c : Carried s h) (ranged : Ranged s) (quiet : Normal s) where
   abbrev x : Run
   x = c .run
 
@@ -110,7 +111,7 @@ module _ {s : State} {h : History} (c : Carried s h) (ranged : Ranged s) (quiet 
         | inr w ↦ absurd (unworked-unstable a r n m e w)
       ]
 
-pub agrees : (s : State) (h : History) → Carried s h → Ranged s → Quiet s → Agrees s h
+pub agrees : (s : State) (h : History) → Carried s h → Ranged s → Normal s → Agrees s h
 agrees s h c ranged quiet = record {
   works = c .works;
   run = c .run;

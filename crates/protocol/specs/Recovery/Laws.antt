@@ -4,6 +4,7 @@ pub mod Status
 pub mod Changes
 pub mod Marks
 pub mod NewTicket
+pub mod Holes
 pub mod Lookups
 pub mod Restored
 pub mod Filled

@@ -10,12 +10,15 @@ use borrow.Author.Tests.{eqb-true}
 use Rattle.lists.specs.Tests.{and-l, and-r, and4, true-not-false, not-true}
 use Rattle.lists.specs.Map.{upd, upd-ind}
 use Rattle.lists.specs.Lists.{_∈_, All, allb, allb-true, find-some, Prefix, prefix-refl, prefix-trans}
-use Rattle.lists.specs.Questions.{Result, ok, refuse, asks, Yes, asks-ok}
+use Rattle.lists.specs.Counting.{counting, mem-counting}
+use Rattle.lists.specs.Questions.{Result, ok, refuse, put-all, Yes, put-ok}
+use Rattle.protocol.specs.Work.{ports}
 use Rattle.protocol.specs.declared.Entry.{Entry}
 use Rattle.protocol.specs.declared.Packet.{Packet}
 use Rattle.protocol.specs.declared.Status.{Status}
 use Rattle.protocol.specs.declared.Status.the-variants.{Up, Down, CatchingUp}
-use Rattle.protocol.specs.Parts.{Job, State, with-lost, with-table, no-job, start, every-machine, up}
+use Rattle.protocol.specs.Parts.{Job, State, no-job, start, every-machine, job-machines, up}
+use Rattle.protocol.specs.Setters.{with-lost, with-table}
 use Rattle.protocol.specs.Sending.{send, send-all}
 use Rattle.protocol.specs.Working.{next-entry, worked-only, receivers-of, value-out, hops-out, work-next}
 use Rattle.protocol.specs.Packets as packets
@@ -27,7 +30,8 @@ use Rattle.protocol.specs.Job.{machines-of, job-in-range, job-of, begin}
 use Rattle.protocol.specs.Questions as questions
 use Rattle.protocol.specs.Step.{Outcome, accept, crash-outcome, deliver-outcome, work-outcome, outcome, judged, play, step-frame, step, run}
 use Rattle.protocol.specs.CrashFree.{Run, crash-free}
-use Rattle.protocol.specs.Demand3.{History, no-history, add-worked, recorded, is-accepted, record-frame, record-line, history-from, state-after, history-after, Quiet, Begins, Demand3}
+use Rattle.protocol.specs.History.{History, no-history, add-worked, recorded, is-accepted, record-frame, record-line, history-from, state-after, history-after}
+use Rattle.protocol.specs.Demand3.{Normal, Begins, Demand3}
 use Rattle.protocol.specs.Recovery.Run.Facts.{RunOk}
 use Rattle.protocol.specs.Recovery.Invariant.World.{nothing-pending}
 use Rattle.protocol.specs.Recovery.Invariant.Clauses.{Chare}
@@ -118,7 +122,7 @@ finish k {t} {h′} o r =
           chares = c .chares;
           good = d .good;
           told = d .told;
-          is-run = subst (λ j. crash-free j (h′ .injections) (c .works) ≡ some (c .run)) (sym (d .job)) (c .is-run);
+          is-run = subst (λ j. crash-free (ports j) (h′ .injections) (c .works) ≡ some (c .run)) (sym (d .job)) (c .is-run);
         };
         ranged = record {
           known = λ p u. subst (λ j. (1 ≤ p) × (p ≤ j .machines)) (sym (d .job)) (r .known p (d .known p u));
@@ -168,8 +172,8 @@ module _ {s : State} {h : History} (k : Kept s h) where
       stable = stable;
       good = g;
       told = told;
-      is-run = subst (λ j. crash-free j (h′ .injections) (k .carried .works) ≡ some (k .carried .run)) (sym same)
-          (subst (λ i. crash-free (s .job) i (k .carried .works) ≡ some (k .carried .run)) (sym inj) (k .carried .is-run));
+      is-run = subst (λ j. crash-free (ports j) (h′ .injections) (k .carried .works) ≡ some (k .carried .run)) (sym same)
+          (subst (λ i. crash-free (ports (s .job)) i (k .carried .works) ≡ some (k .carried .run)) (sym inj) (k .carried .is-run));
       chares = subst (All (λ i. i .chare ≢ 0)) (sym inj) (k .carried .chares);
     };
     grows = λ a. prefix-refl _;
@@ -178,10 +182,10 @@ module _ {s : State} {h : History} (k : Kept s h) where
   -- ---- frame by frame
   keep-inject : (r v n : ℕ) → Yes (questions.inject-questions s r v n) → Reached k (accept (send s 0 r v n) .state) (recorded s h (inject r v n))
   unfolding questions.inject-questions accept send-all
-  keep-inject r v n y = finish k (inject-frame (k .carried) r v n (chare-is r (and-l _ _ (y .1 .0))) (y .1 .1 .1 .1 .1 .1 .0)) (let m = calm-send-all s 0 (r ∷ []) v n in same-ranged (m .job) (m .status) (k .ranged))
+  keep-inject r v n y = finish k (inject-frame (k .carried) r v n (chare-is r (and-l _ _ (y .1 .0))) (y .1 .1 .1 .1 .0)) (let m = calm-send-all s 0 (r ∷ []) v n in same-ranged (m .job) (m .status) (k .ranged))
 
   keep-delivered : (q a r n : ℕ) (y : Packet) → questions.on-wire s q a r n ≡ some y → up s (packets.destination (s .job) q a r) ≡ true
-      → questions.ticket-admitted s y (y .content) ≡ true → Reached k (accept (packets.deliver s q a r n y) .state) (recorded s h (deliver q a r n))
+      → questions.ticket-admitted s y ≡ true → Reached k (accept (packets.deliver s q a r n y) .state) (recorded s h (deliver q a r n))
   unfolding questions.on-wire packets.is-named accept recorded
   keep-delivered q a r n y found up? admits =
       let (i, named) = find-some _ (s .wire) found in
@@ -236,11 +240,11 @@ module _ {s : State} {h : History} (k : Kept s h) where
   }
 
   -- cover: every machine is up
-  all-up : (p : ℕ) → allb (crashes.is-normal s) every-machine ≡ true → s .status p ≡ Up
-  unfolding crashes.is-normal
+  all-up : (p : ℕ) → allb (crashes.is-normal s) (job-machines (s .job)) ≡ true → s .status p ≡ Up
+  unfolding crashes.is-normal job-machines
   all-up p e = elim (up? (s .status p)) [
     | inl z ↦ z
-    | inr d ↦ let (a, b) = k .ranged .known p d in let c = k .ranged .six in neither-up (s .status p) (allb-true _ every-machine e p (machine-known p a (omega arith)))
+    | inr d ↦ let (a, b) = k .ranged .known p d in neither-up (s .status p) (allb-true _ (counting (s .job .machines) 1) e p (mem-counting (s .job .machines) 1 p a (omega arith)))
   ]
 
   keep-crash : (p : ℕ) → Yes (questions.crash-questions s p) → crashes.has-cover s p ≡ true → Reached k (accept (crashes.crash s p) .state) (recorded s h (crash p))
@@ -248,7 +252,7 @@ module _ {s : State} {h : History} (k : Kept s h) where
   keep-crash p y e =
       let m = is-known p (y .1 .0) in
       finish k (onward (crash-job s p) refl
-      (crash-step s (k .carried .run) (k .carried .stable) run-is (k .carried .good) p m (λ q. all-up q (and-l _ _ e)) (and-r (allb (crashes.is-normal s) every-machine) _ e))
+      (crash-step s (k .carried .run) (k .carried .stable) run-is (k .carried .good) p m (λ q. all-up q (and-l _ _ e)) (and-r (allb (crashes.is-normal s) (job-machines (s .job))) _ e))
       (crash-told s p (k .carried .told)))
       (crash-ranged s p (machine-is p (y .1 .0)) (k .ranged))
 
@@ -311,17 +315,17 @@ module _ {s : State} {h : History} (k : Kept s h) where
   keep-yes (show r) y = keep-show k
 
   -- refused: nothing changes
-  keep-judged : (f : Frame) (r : Result Outcome) → asks 2 (questions.questions s f) (outcome s f) ≡ r → Reached k (judged s r .state) (record-frame s h (some f) (is-accepted (judged s r .answer)))
+  keep-judged : (f : Frame) (r : Result Outcome) → put-all (questions.questions s f) (outcome s f) ≡ r → Reached k (judged s r .state) (record-frame s h (some f) (is-accepted (judged s r .answer)))
   unfolding judged record-frame is-accepted
   keep-judged f (refuse n) e = stays k
   keep-judged f (ok o) e =
-      let (y, q) = asks-ok 2 (questions.questions s f) (outcome s f) o e in
+      let (y, q) = put-ok (questions.questions s f) (outcome s f) o e in
       subst (λ o. Reached k (o .state) (record-frame s h (some f) (is-accepted (o .answer)))) q (keep-yes f y)
 
   keep-read : (o : Option Frame) → Reached k (step-frame s o .state) (record-frame s h o (is-accepted (step-frame s o .answer)))
   unfolding step-frame record-frame play
   keep-read none = stays k
-  keep-read (some f) = keep-judged f (asks 2 (questions.questions s f) (outcome s f)) refl
+  keep-read (some f) = keep-judged f (put-all (questions.questions s f) (outcome s f)) refl
 
   pub keep-line : (l : Line) → Reached k (step s l .state) (record-line s h l)
   unfolding step record-line
@@ -356,7 +360,7 @@ history-append s h [] b = refl
 history-append s h (l ∷ a) b = history-append (step s l .state) (record-line s h l) a b
 
 -- what was worked at an earlier quiet moment begins what is worked at a later one
-begins : (earlier since : List Line) → Quiet (state-after earlier) → Quiet (state-after (earlier ++ since)) → Begins earlier (earlier ++ since)
+begins : (earlier since : List Line) → Normal (state-after earlier) → Normal (state-after (earlier ++ since)) → Begins earlier (earlier ++ since)
 unfolding state-after history-after
 begins earlier since q q′ c =
     let k = kept-after earlier in
@@ -364,13 +368,13 @@ begins earlier since q q′ c =
     let e = run-append start earlier since in
     let f = history-append start no-history earlier since in
     let a = settled-sequence (k .carried) (k .ranged) q c in
-    let b = settled-sequence (r .kept .carried) (r .kept .ranged) (subst Quiet e q′) c in
+    let b = settled-sequence (r .kept .carried) (r .kept .ranged) (subst Normal e q′) c in
     subst (λ l. Prefix l (history-from start no-history (earlier ++ since) .sequence c)) (sym a)
     (subst (λ l. Prefix (k .carried .run .worked c) l) (sym (ap (λ h. h .sequence c) f ∙ b)) (r .grows c))
 
 -- Demand 3: for every list of lines, begun before any job, at every quiet moment
 pub demand3 : Demand3
 demand3 moment quiet = record {
-  agrees = let k = kept-after moment in agrees (state-after moment) (history-after moment) (k .carried) (k .ranged) quiet;
-  begins = λ earlier since e q. subst (λ m. Begins earlier m) e (begins earlier since q (subst (λ m. Quiet (state-after m)) (sym e) quiet));
+  agrees = let k = kept-after moment in agrees (state-after moment) (history-after moment) (k .carried) (k .ranged) (quiet .normal);
+  begins = λ earlier since e q. subst (λ m. Begins earlier m) e (begins earlier since (q .normal) (subst (λ m. Normal (state-after m)) (sym e) (quiet .normal)));
 }

@@ -1,4 +1,4 @@
--- Steps that leave the job, the status of every machine, and the heights: what the history says stays.
+-- Steps that leave the job, the status of every machine, the lost flag and the heights: what the history says stays.
 use mathlib.Core.Path.{_≡_, refl, sym, ap, _∙_}
 use mathlib.Core.Bool.{Bool, true, false}
 use mathlib.Core.List.{List, [], _∷_}
@@ -14,23 +14,25 @@ use Rattle.protocol.specs.declared.Content.{Content}
 use Rattle.protocol.specs.declared.Content.the-variants.{Ask as ASK, GrantOld as GRANT-old, GrantReceived as GRANT-received, GrantNew as GRANT-new, Data as DATA, Note as NOTE, Ack as ACK}
 use Rattle.protocol.specs.declared.Lookup.{Lookup}
 use Rattle.protocol.specs.declared.Lookup.the-variants.{Missing, Ticketed, Unticketed}
-use Rattle.protocol.specs.Parts.{Memory, State, with-memory}
+use Rattle.protocol.specs.Parts.{Memory, State}
+use Rattle.protocol.specs.Setters.{with-memory}
 use Rattle.protocol.specs.Sending.{is-local, put, next-message, log-message, send-remote, send-local, send-message, send, send-all}
 use Rattle.protocol.specs.Packets.{reply, new-table, new-log, ask, grant-old, grant-received, grant-new, data-in, note, ack, arrive, deliver}
 use Rattle.protocol.specs.CrashFree.{Run}
-use Rattle.protocol.specs.Demand3.{History}
+use Rattle.protocol.specs.History.{History}
 use Rattle.protocol.specs.Recovery.Invariant.Good.{Told}
 
 pub record Calm (s t : State) : Type 0 where
   pub job : t .job ≡ s .job
   pub status : t .status ≡ s .status
+  pub lost : t .lost ≡ s .lost
   pub heights : (c : ℕ) → t .live c .height ≡ s .live c .height
 
 pub calm-refl : (s : State) → Calm s s
-calm-refl s = record { job = refl; status = refl; heights = λ c. refl }
+calm-refl s = record { job = refl; status = refl; lost = refl; heights = λ c. refl }
 
 pub calm-trans : {s t u : State} → Calm s t → Calm t u → Calm s u
-calm-trans a b = record { job = b .job ∙ a .job; status = b .status ∙ a .status; heights = λ c. b .heights c ∙ a .heights c }
+calm-trans a b = record { job = b .job ∙ a .job; status = b .status ∙ a .status; lost = b .lost ∙ a .lost; heights = λ c. b .heights c ∙ a .heights c }
 
 pub calm-told : {s t : State} {h : History} {x : Run} {stable : ℕ → ℕ} → Calm s t → Told s h x stable → Told t h x stable
 calm-told {s} {t} {h} {x} {stable} k told = record {
@@ -43,7 +45,7 @@ calm-told {s} {t} {h} {x} {stable} k told = record {
 
 -- one memory changes, and its height stays
 calm-memory : (s : State) (c : ℕ) (m : Memory) → m .height ≡ s .live c .height → Calm s (with-memory s c m)
-calm-memory s c m e = record { job = refl; status = refl; heights = λ b. upd-ind (λ b (k : Memory). k .height ≡ s .live b .height) c m (s .live) e (λ b _. refl) b }
+calm-memory s c m e = record { job = refl; status = refl; lost = refl; heights = λ b. upd-ind (λ b (k : Memory). k .height ≡ s .live b .height) c m (s .live) e (λ b _. refl) b }
 
 -- ---- sending
 calm-log : (s : State) (m : Message) (t : ℕ) → Calm s (log-message s m t)
@@ -52,7 +54,7 @@ calm-log s m t = calm-memory s (m .sender) _ refl
 
 calm-put : {s t : State} → Calm s t → (y : Packet) → Calm s (put t y)
 unfolding put
-calm-put k y = record { job = k .job; status = k .status; heights = k .heights }
+calm-put k y = record { job = k .job; status = k .status; lost = k .lost; heights = k .heights }
 
 calm-local : (s : State) (m : Message) (o : Option Entry) → Calm s (send-local s m o)
 unfolding send-local
@@ -115,9 +117,9 @@ calm-arrive s y GRANT-old = calm-old s y _
 calm-arrive s y (GRANT-received t) = calm-received s y t _
 calm-arrive s y (GRANT-new t) = calm-new s y t _
 calm-arrive s y (DATA v h) = calm-data s y v h _
-calm-arrive s y (NOTE t) = calm-reply (record { job = refl; status = refl; heights = λ c. refl }) y ACK
+calm-arrive s y (NOTE t) = calm-reply (record { job = refl; status = refl; lost = refl; heights = λ c. refl }) y ACK
 calm-arrive s y ACK = calm-table s (y .receiver) _
 
 pub calm-deliver : (s : State) (k a r n : ℕ) (y : Packet) → Calm s (deliver s k a r n y)
 unfolding deliver
-calm-deliver s k a r n y = calm-trans (record { job = refl; status = refl; heights = λ c. refl }) (calm-arrive _ y (y .content))
+calm-deliver s k a r n y = calm-trans (record { job = refl; status = refl; lost = refl; heights = λ c. refl }) (calm-arrive _ y (y .content))

@@ -13,12 +13,13 @@ use Rattle.lists.specs.Map.{upd, upd-other}
 use Rattle.lists.specs.Lists.{keep, keep-all}
 use Rattle.protocol.specs.declared.Logged.{Logged}
 use Rattle.protocol.specs.declared.Status.the-variants.{Up, Down}
-use Rattle.protocol.specs.Parts.{Job, Memory, State, with-table, with-log, on, up, at-home}
+use Rattle.protocol.specs.Parts.{Job, Memory, State, on, up, at-home}
+use Rattle.protocol.specs.Setters.{with-table, with-log}
 use Rattle.protocol.specs.Checkpoint.{pruned, prune, fix-copy, stays, clean-log, clean-logs, checkpoint}
 use Rattle.protocol.specs.Restart.{is-ticketed-above}
 use Rattle.protocol.specs.Frames.{checkpoint as checkpoint-frame}
 use Rattle.protocol.specs.CrashFree.{Run}
-use Rattle.protocol.specs.Demand3.{History, recorded}
+use Rattle.protocol.specs.History.{History, recorded}
 use Rattle.protocol.specs.Recovery.Run.Facts.{RunOk}
 use Rattle.protocol.specs.Recovery.Invariant.World.{Pending, nothing-pending}
 use Rattle.protocol.specs.Recovery.Invariant.Clauses.{InvP}

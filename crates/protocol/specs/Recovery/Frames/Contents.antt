@@ -21,7 +21,8 @@ use Rattle.protocol.specs.declared.Content.the-variants.{Ask as ASK, Gra
 use Rattle.protocol.specs.declared.Lookup.{Lookup}
 use Rattle.protocol.specs.declared.Lookup.the-variants.{Missing, Ticketed as HasTicket, Unticketed}
 use Rattle.protocol.specs.declared.Status.the-variants.{Up, Down}
-use Rattle.protocol.specs.Parts.{State, with-table, with-log, with-notes}
+use Rattle.protocol.specs.Parts.{State}
+use Rattle.protocol.specs.Setters.{with-table, with-log, with-notes}
 use Rattle.protocol.specs.Window.{admitted}
 use Rattle.protocol.specs.Tickets.{entry, for-message, new-tn, unreceived, filled, note-entry}
 use Rattle.protocol.specs.Sending.{is-local}
@@ -64,7 +65,7 @@ module _ (t : ℕ) (z : Logged) where
 -- a ticket is a number
 tick-some : {p : Pending} {w : World} → RunOk (w .job) (w .run) → InvP p w → {r a n t : ℕ} → Chare (w .job) r → Tick (w .run) (w .mem) r a n t → t ≢ 0
 tick-some ok inv c (inl q) e = let b = place-bound q .0 in omega arith
-tick-some ok inv {r} c (inr q) e = let b = inv .tables r c .above (q .entry) (q .member) in let d = q .of-tn in omega arith
+tick-some ok inv {r} c (inr q) e = let b = inv .tables r c .positive (q .entry) (q .member) in let d = q .of-tn in omega arith
 
 module _ {p : Pending} {s : State} {x : Run} {stable : ℕ → ℕ} (ok : RunOk (s .job) x) (g : Good p s x stable) (y : Packet)
     (k : SentKey x (y .sender) (y .receiver) (y .sn)) where
@@ -157,13 +158,13 @@ module _ {p : Pending} {s : State} {x : Run} {stable : ℕ → ℕ} (ok : RunOk 
 
   -- ---- DATA: the sender's log has the entry's TN
   module _ (u : s .status (s .job .home (y .receiver)) ≢ Down) (v h : ℕ) (f : Fits (now g) (y .sender) (y .receiver) (y .sn) (DATA v h)) where
-    logged-entry : (e : Entry) → e ∈ g .mem (y .receiver) .table → e .sender ≡ y .sender → e .sn ≡ y .sn
+    logged-entry : (e : Entry) → e ∈ g .mem (y .receiver) .table → stable (y .receiver) < e .tn → e .sender ≡ y .sender → e .sn ≡ y .sn
         → s .status (s .job .home (y .sender)) ≡ Up → LoggedAs (g .mem (y .sender) .log) (y .receiver) (y .sn) (e .tn)
-    logged-entry e i a b up = elim (f .2 up) [
+    logged-entry e i o a b up = elim (f .2 up) [
       | inl t ↦
           let q = tick-entry (ok .distinct (y .receiver)) (g .inv .tables (y .receiver) chare) (logged-tick (g .inv .logs (y .sender) (key-sender (g .inv .domain) k)) (t .found) (t .some-tn)) e i a b in
           subst (LoggedAs (g .mem (y .sender) .log) (y .receiver) (y .sn)) (sym q) (t .found)
-      | inr t ↦ absurd (stable-no-entry {stable = stable} (ok .distinct (y .receiver)) (g .inv .tables (y .receiver) chare) t e i a b)
+      | inr t ↦ absurd (stable-no-entry {stable = stable} (ok .distinct (y .receiver)) (g .inv .tables (y .receiver) chare) t e i o a b)
     ]
 
     data-some : (e : Entry) → entry-of s y ≡ some e → e .received ≡ false
@@ -174,7 +175,7 @@ module _ {p : Pending} {s : State} {x : Run} {stable : ℕ → ℕ} (ok : RunOk 
         good-table g (y .receiver) u _
         (subst (λ m. InvP p (put-table (now g) (y .receiver) (filled (y .sender) (y .sn) v h (m .table)))) (mem u)
         (table-fill (g .inv) (y .receiver) chare (y .sender) (y .sn) v h e (ap (λ m. entry (m .table) (y .sender) (y .sn)) (mem u) ∙ found) (f .1)
-        (λ l. true-not-false l (f .0)) (λ l up. logged-entry e (subst (λ m. e ∈ m .table) (sym (mem u)) i) a b up)))
+        (λ l. true-not-false l (f .0)) (λ o _ up. logged-entry e (subst (λ m. e ∈ m .table) (sym (mem u)) i) o a b up)))
 
     pub keep-data : (o : Option Entry) → entry-of s y ≡ o → Good p (data-in s y v h o) x stable
     unfolding data-in
@@ -303,7 +304,7 @@ module _ {p : Pending} {s : State} {x : Run} {stable : ℕ → ℕ} (ok : RunOk 
     keep-note = good-reply stored y ACK k (
       f .0,
       f .2,
-      λ _ e i a b. inl (rw (upd-same home notes (s .notes))
+      λ _ e i _ a b. inl (rw (upd-same home notes (s .notes))
           (subst (NotedAs notes (y .sender) (y .receiver) (y .sn)) (sym (tick-entry (ok .distinct (y .receiver)) (g .inv .tables (y .receiver) chare) (f .1) e i a b)) stored-is)),
     )
 

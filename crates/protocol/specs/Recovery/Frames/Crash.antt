@@ -5,7 +5,8 @@ use mathlib.Core.Logic.{_≢_}
 use Prim.Native.Nat.{ℕ}
 use Rattle.lists.specs.Lists.{_∈_, keep}
 use Rattle.protocol.specs.declared.Status.the-variants.{Up}
-use Rattle.protocol.specs.Parts.{Memory, State, with-table, every-machine, blank}
+use Rattle.protocol.specs.Parts.{Memory, State, every-machine, blank}
+use Rattle.protocol.specs.Setters.{with-table}
 use Rattle.protocol.specs.Crash.{crash}
 use Rattle.protocol.specs.Restart.{restored-table, is-ticketed-above}
 use Rattle.protocol.specs.CrashFree.{Run}

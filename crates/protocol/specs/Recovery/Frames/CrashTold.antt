@@ -9,7 +9,7 @@ use Rattle.protocol.specs.declared.Status.the-variants.{Down}
 use Rattle.protocol.specs.Parts.{State, blank}
 use Rattle.protocol.specs.Crash.{crash}
 use Rattle.protocol.specs.CrashFree.{Run}
-use Rattle.protocol.specs.Demand3.{History}
+use Rattle.protocol.specs.History.{History}
 use Rattle.protocol.specs.Recovery.Laws.AtHome.{at-home-off}
 use Rattle.protocol.specs.Recovery.Invariant.Good.{Told}
 

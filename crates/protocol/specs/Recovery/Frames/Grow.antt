@@ -13,13 +13,13 @@ use Rattle.lists.specs.Lists.{_∈_, All, all-snoc, Prefix, prefix-refl}
 use Rattle.protocol.specs.declared.Entry.{Entry}
 use Rattle.protocol.specs.declared.Status.the-variants.{Down}
 use Rattle.protocol.specs.Parts.{Memory, State}
-use Rattle.protocol.specs.Work.{work, receivers, sent-value}
+use Rattle.protocol.specs.Work.{work, receivers, sent-value, ports}
 use Rattle.protocol.specs.Sending.{send-all}
 use Rattle.protocol.specs.Working.{next-entry, work-entry, worked-only, value-out, hops-out, receivers-of, work-next}
 use Rattle.protocol.specs.Questions.{window-admits, put-to-all, put-to-sends}
 use Rattle.protocol.specs.Frames.{inject}
 use Rattle.protocol.specs.CrashFree.{Injection, Run, crash-free, run-send}
-use Rattle.protocol.specs.Demand3.{History, message-of, add-worked, recorded}
+use Rattle.protocol.specs.History.{History, message-of, add-worked, recorded}
 use Rattle.protocol.specs.Recovery.Run.Facts.{RunOk}
 use Rattle.protocol.specs.Recovery.Run.Send.{send-worked}
 use Rattle.protocol.specs.Recovery.Run.Laws.{run-ok, inject-more}
@@ -53,7 +53,7 @@ module _ {s : State} {h : History} (c : Carried s h) (r v n : ℕ) (chare : Char
   abbrev longer : Run
   longer = run-send (c .run) 0 r v n
 
-  is-longer : crash-free (s .job) (h .injections ++ (injection ∷ [])) (c .works) ≡ some longer
+  is-longer : crash-free (ports (s .job)) (h .injections ++ (injection ∷ [])) (c .works) ≡ some longer
   is-longer = inject-more (s .job) (h .injections) (c .works) (c .run) (c .chares) injection (c .is-run)
 
   more-chares : All (λ (i : Injection). i .chare ≢ 0) (h .injections ++ (injection ∷ []))
@@ -92,7 +92,7 @@ module _ {s : State} {h : History} (c : Carried s h) (r v n : ℕ) (chare : Char
           works = c .works;
           run = longer;
           stable = c .stable;
-          is-run = subst (λ j. crash-free j (h .injections ++ (injection ∷ [])) (c .works) ≡ some longer) (sym (k .job)) is-longer;
+          is-run = subst (λ j. crash-free (ports j) (h .injections ++ (injection ∷ [])) (c .works) ≡ some longer) (sym (k .job)) is-longer;
           chares = more-chares;
           good = sent-good 0 v n (keep-send-all s longer-ok 0 (r ∷ []) v n owing desk-up (and-i _ _ admits refl));
           told = calm-told k same-told;
@@ -122,7 +122,7 @@ module _ {s : State} {h : History} (c : Carried s h) (r : ℕ) (chare : Chare (s
     mem = upd r (work-entry (c .good .mem r) e) (c .good .mem);
     linked = linked-memory (c .good .linked) r up (work-entry (s .live r) e) (work-entry (c .good .mem r) e) (ap (λ m. work-entry m e) mem-is) (λ a k d. refl);
     silent = λ a d z. upd-ind (λ a (m : Memory). m .log ≡ s .live a .log) r (work-entry (s .live r) e) (s .live) refl (λ a _. refl) a ∙ c .good .silent a d z;
-    inv = subst (λ m. InvP (to-send r (receivers (s .job) r (e .hops)) (sent-value (work (m .state) (e .value))) (e .hops - 1))
+    inv = subst (λ m. InvP (to-send r (receivers (ports (s .job)) r (e .hops)) (sent-value (work (m .state) (e .value))) (e .hops - 1))
         (world (worked-only s r e) (done .run) (c .stable) (upd r (work-entry (c .good .mem r) e) (c .good .mem)))) mem-is (done .inv);
   }
 
@@ -162,7 +162,7 @@ module _ {s : State} {h : History} (c : Carried s h) (r : ℕ) (chare : Chare (s
           works = done .works;
           run = done .run;
           stable = c .stable;
-          is-run = subst (λ j. crash-free j (told-of .injections) (done .works) ≡ some (done .run)) (sym (k .job)) (told-run (done .is-run));
+          is-run = subst (λ j. crash-free (ports j) (told-of .injections) (done .works) ≡ some (done .run)) (sym (k .job)) (told-run (done .is-run));
           chares = told-chares (c .chares);
           good = sent-good r _ _ (keep-send-all (worked-only s r e) worked-ok r (receivers-of s r e) (value-out s r e) (hops-out e) worked-good worked-up admits);
           told = calm-told k worked-told;
@@ -176,7 +176,7 @@ module _ {s : State} {h : History} (c : Carried s h) (r : ℕ) (chare : Chare (s
       worked-up : worked-only s r e .status (worked-only s r e .job .home r) ≢ Down
       worked-up = up
 
-      told-run : crash-free (s .job) (h .injections) (done .works) ≡ some (done .run) → crash-free (worked-only s r e .job) (told-of .injections) (done .works) ≡ some (done .run)
+      told-run : crash-free (ports (s .job)) (h .injections) (done .works) ≡ some (done .run) → crash-free (ports (worked-only s r e .job)) (told-of .injections) (done .works) ≡ some (done .run)
       told-run q = q
 
       told-chares : All (λ (i : Injection). i .chare ≢ 0) (h .injections) → All (λ (i : Injection). i .chare ≢ 0) (told-of .injections)

@@ -11,6 +11,7 @@ use borrow.Author.Tests.{eqb-true, eqb-false, eq-eqb, leb-true, le-leb}
 use Rattle.lists.specs.Tests.{either, eq?, true-not-false, and-l, and-r, and-i}
 use Rattle.lists.specs.Lists.{_∈_, All, all-nil, all-cons, all-append, keep, mem-keep, allb, allb-true}
 use Rattle.lists.specs.Keys.{nodup-nil}
+use Rattle.lists.specs.Counting.{counting, mem-counting, counting-mem}
 use Rattle.protocol.specs.declared.Message.{Message}
 use Rattle.protocol.specs.declared.Status.the-variants.{Up}
 use Rattle.protocol.specs.Parts.{Job, Memory, State, blank, every-chare, every-machine, no-job, start}
@@ -18,7 +19,7 @@ use Rattle.protocol.specs.Frames.{between}
 use Rattle.protocol.specs.Work.{port, ports, receivers}
 use Rattle.protocol.specs.Job.{machines-of, chares-of, buddy-byte, chare-byte, buddy-in-range, chare-in-range, job-in-range, previous-machine, has-machine, has-chare, job-of, new-memory, first-memory, begin}
 use Rattle.protocol.specs.CrashFree.{run-start}
-use Rattle.protocol.specs.Demand3.{no-history}
+use Rattle.protocol.specs.History.{no-history}
 use Rattle.protocol.specs.Recovery.Run.Fold.{Local, local-start, folded-nil}
 use Rattle.protocol.specs.Recovery.Run.Facts.{Sent, ok-start}
 use Rattle.protocol.specs.Recovery.Run.Laws.{started}
@@ -31,42 +32,22 @@ use Rattle.protocol.specs.Recovery.Invariant.Counts.{counted-nothing}
 use Rattle.protocol.specs.Recovery.Laws.Status.{down-not-up}
 use Rattle.protocol.specs.Recovery.Laws.Lookups.{entry-key, logged-key}
 
--- ---- k numbers from a on
-unfoldable counting : ℕ → ℕ → List ℕ
-counting a zero = []
-counting a (suc k) = a ∷ counting (suc a) k
-
-mem-counting : (a k c : ℕ) → a ≤ c → c < a + k → c ∈ counting a k
-unfolding counting
-mem-counting a zero c p q = absurd (omega arith)
-mem-counting a (suc k) c p q = elim (eq? c a) [
-  | inl e ↦ here e
-  | inr d ↦ there (mem-counting (suc a) k c (omega arith) (omega arith))
-]
-
-counting-mem : (a k : ℕ) {c : ℕ} → c ∈ counting a k → a ≤ c
-unfolding counting
-counting-mem a zero i = absurd (List·Memᴰ·not-nil i)
-counting-mem a (suc k) i = elim (List·Memᴰ·cases-cons i) [
-  | inl e ↦ omega arith
-  | inr j ↦ let h = counting-mem (suc a) k j in omega arith
-]
-
+-- ---- the numbers of chares and machines
 pub chare-known : (c : ℕ) → 1 ≤ c → c ≤ 12 → c ∈ every-chare
 unfolding counting every-chare
-chare-known c p q = mem-counting 1 12 c p (omega arith)
+chare-known c p q = mem-counting 12 1 c p (omega arith)
 
 pub chare-positive : {c : ℕ} → c ∈ every-chare → 1 ≤ c
 unfolding counting every-chare
-chare-positive i = counting-mem 1 12 i
+chare-positive i = counting-mem 12 1 i
 
 pub machine-known : (p : ℕ) → 1 ≤ p → p ≤ 6 → p ∈ every-machine
 unfolding counting every-machine
-machine-known p h k = mem-counting 1 6 p h (omega arith)
+machine-known p h k = mem-counting 6 1 p h (omega arith)
 
 pub machine-positive : {p : ℕ} → p ∈ every-machine → 1 ≤ p
 unfolding counting every-machine
-machine-positive i = counting-mem 1 6 i
+machine-positive i = counting-mem 6 1 i
 
 pub between-true : (a b x : ℕ) → between a b x ≡ true → (a ≤ x) × (x ≤ b)
 unfolding between
@@ -166,7 +147,7 @@ module _ (b : List ℕ) (range : InRange b) where
       (λ e. let k = between-true 1 (chares-of b) c e in rw e (port-ok (chare-byte b c i) (h (k .0) (k .1))))
       (λ e. rw e (port-ok 0 (omega arith)))
 
-  ports-ok : (c hops : ℕ) → All (Chare (job-of b)) (receivers (job-of b) c hops)
+  ports-ok : (c hops : ℕ) → All (Chare (job-of b)) (receivers (ports (job-of b)) c hops)
   unfolding receivers ports job-of
   ports-ok c hops =
       let first = port-byte c 1 (λ p q. range .numbers c p q .first) in
@@ -280,7 +261,7 @@ module _ {j : Job} (ok : JobOk j) {mem : ℕ → Memory} (new : New j mem) where
   unfolding run-start
   new-tables c chare = subst (Table run-start c 0) (sym (new-table c chare)) (record {
     complete = λ t p q. absurd (omega arith);
-    above = all-nil _;
+    positive = all-nil _;
     tns = nodup-nil _;
     keys = nodup-nil entry-key;
     sent = all-nil _;

@@ -10,7 +10,7 @@ use Rattle.protocol.specs.Parts.{State}
 use Rattle.protocol.specs.Restart.{restored, restore, restart, resends}
 use Rattle.protocol.specs.Frames.{restart as restart-frame}
 use Rattle.protocol.specs.CrashFree.{Run}
-use Rattle.protocol.specs.Demand3.{History, recorded}
+use Rattle.protocol.specs.History.{History, recorded}
 use Rattle.protocol.specs.Recovery.Invariant.World.{nothing-pending}
 use Rattle.protocol.specs.Recovery.Invariant.Clauses.{InvP}
 use Rattle.protocol.specs.Recovery.Invariant.Linked.{world}

@@ -14,7 +14,8 @@ use Rattle.lists.specs.Lists.{_∈_, All, find, change1}
 use Rattle.protocol.specs.declared.Message.{Message}
 use Rattle.protocol.specs.declared.Entry.{Entry}
 use Rattle.protocol.specs.declared.Status.the-variants.{Down}
-use Rattle.protocol.specs.Parts.{Memory, State, with-table, with-log, with-sn, with-live}
+use Rattle.protocol.specs.Parts.{Memory, State}
+use Rattle.protocol.specs.Setters.{with-table, with-log, with-sn, with-live}
 use Rattle.protocol.specs.Window.{admitted}
 use Rattle.protocol.specs.Tickets.{entry, for-message, new-tn, fill, filled}
 use Rattle.protocol.specs.Sending.{is-local, about, next-message, log-message, send-remote, local-entry, send-local}
@@ -151,7 +152,7 @@ module _ {s : State} {x : Run} {stable : ℕ → ℕ} (ok : RunOk (s .job) x) (a
       keep-found = subst (λ s. Good (to-send a l v h) s x stable) (sym (table-log s r (filled a n v h (s .live r .table)) message (e .tn)))
           (good-table logged r arrives (filled a n v h (s .live r .table))
           (subst (λ T. InvP (to-send a l v h) (put-table (now logged) r (filled a n v h T))) same-table
-          (table-fill (logged .inv) r next-chare a n v h e (ap (λ T. entry T a n) same-table ∙ found) sent-next (λ _. let c = new-count in omega arith) (λ z. true-not-false f z))))
+          (table-fill (logged .inv) r next-chare a n v h e (ap (λ T. entry T a n) same-table ∙ found) sent-next (λ _. let c = new-count in omega arith) (λ _ z. true-not-false f z))))
 
 -- ---- a new ticket is entered for a local message, and a NOTE goes out
 -- one more entry of a new key is what is found under it, and what is filled

@@ -41,7 +41,7 @@ module _ {s : State} {x : Run} {stable : ℕ → ℕ} (ok : RunOk (s .job) x) (a
   keep-local f (some e) found = keep-found ok a r l v h g u f e found (λ z.
       let (i, _, _) = entry-some (s .live r .table) a (s .live a .sn r + 1) found in
       let up = subst (λ p. s .status p ≢ Down) (local-home (s .job) a r f) u in
-      let b = g .inv .tables r (next-chare ok a r l v h g u) .above e (subst (λ k. e ∈ k .table) (sym (live g r up)) i) in
+      let b = g .inv .tables r (next-chare ok a r l v h g u) .positive e (subst (λ k. e ∈ k .table) (sym (live g r up)) i) in
       omega arith)
 
   pub keep-send : Good (to-send a l v h) (send s a r v h) x stable

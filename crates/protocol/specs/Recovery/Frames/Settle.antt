@@ -10,10 +10,11 @@ use Rattle.lists.specs.Tests.{either, and-l, and-r, true-not-false}
 use Rattle.lists.specs.Map.{upd, upd-ind}
 use Rattle.lists.specs.Lists.{_∈_, allb-true, mem-keep}
 use Rattle.protocol.specs.declared.Status.the-variants.{Up, Down, CatchingUp}
-use Rattle.protocol.specs.Parts.{Memory, State, with-status, with-table, on, every-chare, every-machine, is-catching-up, at-home}
+use Rattle.protocol.specs.Parts.{Memory, State, on, every-chare, job-machines, is-catching-up, at-home}
+use Rattle.protocol.specs.Setters.{with-status, with-table}
 use Rattle.protocol.specs.Restart.{has-caught-up, is-done, settle-machine, settle-all, settle}
 use Rattle.protocol.specs.CrashFree.{Run}
-use Rattle.protocol.specs.Demand3.{History}
+use Rattle.protocol.specs.History.{History}
 use Rattle.protocol.specs.Recovery.Run.Facts.{RunOk}
 use Rattle.protocol.specs.Recovery.Invariant.World.{nothing-pending}
 use Rattle.protocol.specs.Recovery.Invariant.Linked.{Linked}
@@ -98,4 +99,4 @@ settle-them s (q ∷ l) {x} ok g told =
 
 pub keep-settle : (s : State) {x : Run} {stable : ℕ → ℕ} {h : History} → RunOk (s .job) x → Good nothing-pending s x stable → Told s h x stable → Settled s (settle s) x stable h
 unfolding settle
-keep-settle s ok g told = settle-them s every-machine ok g told
+keep-settle s ok g told = settle-them s (job-machines (s .job)) ok g told

@@ -17,7 +17,8 @@ use Rattle.protocol.specs.declared.Packet.{Packet}
 use Rattle.protocol.specs.declared.Content.{Content}
 use Rattle.protocol.specs.declared.Status.{Status}
 use Rattle.protocol.specs.declared.Status.the-variants.{Up, Down}
-use Rattle.protocol.specs.Parts.{State, with-table, with-log, with-wire, with-notes, up}
+use Rattle.protocol.specs.Parts.{State, up}
+use Rattle.protocol.specs.Setters.{with-table, with-log, with-wire, with-notes}
 use Rattle.protocol.specs.Sending.{put}
 use Rattle.protocol.specs.Packets.{reply, new-table, new-log}
 use Rattle.protocol.specs.Restart.{is-ticketed-above}

@@ -17,10 +17,10 @@ use Rattle.protocol.specs.declared.Content.the-variants.{Ask as ASK, Gra
 use Rattle.protocol.specs.declared.Status.{Status}
 use Rattle.protocol.specs.declared.Status.the-variants.{Up, Down, CatchingUp}
 use Rattle.protocol.specs.Parts.{Job, Memory, every-chare, every-machine}
-use Rattle.protocol.specs.Work.{receivers}
+use Rattle.protocol.specs.Work.{receivers, ports}
 use Rattle.protocol.specs.Sending.{is-local}
 use Rattle.protocol.specs.CrashFree.{Run}
-use Rattle.protocol.specs.Demand3.{message-of}
+use Rattle.protocol.specs.History.{message-of}
 use Rattle.protocol.specs.Recovery.Run.Fold.{folded}
 use Rattle.protocol.specs.Recovery.Run.Facts.{Sent}
 use Rattle.protocol.specs.Recovery.Laws.Marks.{In, Reach, Marked}
@@ -40,7 +40,7 @@ pub record JobOk (j : Job) : Type 0 where
   pub desk : j .home 0 ≡ 0
   pub chare : (c : ℕ) → Chare j c → c ∈ every-chare
   pub machine : (c : ℕ) → Chare j c → j .home c ∈ every-machine
-  pub ports : (c hops : ℕ) → All (Chare j) (receivers j c hops)
+  pub ports : (c hops : ℕ) → All (Chare j) (receivers (ports j) c hops)
   pub buddies : (p : ℕ) → p ∈ every-machine → j .buddy p ≢ p
   pub unset : j .set ≡ false → (c : ℕ) → j .home c ≡ 0
   pub range : (c : ℕ) → 1 ≤ c → c ≤ j .chares → Chare j c
@@ -81,7 +81,7 @@ pub record Heights (j : Job) (x : Run) (stable : ℕ → ℕ) (status : ℕ → 
 -- ---- tables: the table l of chare c, whose stable height is h
 pub record Table (x : Run) (c h : ℕ) (l : List Entry) : Type 0 where
   pub complete : (t : ℕ) → h < t → t ≤ length (x .worked c) → (e : Entry) × (e ∈ l) × (e .tn ≡ t)
-  pub above : All (λ e. h < e .tn) l
+  pub positive : All (λ e. 1 ≤ e .tn) l
   pub tns : NoDup (λ (e : Entry). e .tn) l
   pub keys : NoDup entry-key l
   pub sent : All (λ e. SentKey x (e .sender) c (e .sn)) l
@@ -98,17 +98,24 @@ pub record Ordered (j : Job) (x : Run) (mem : ℕ → Memory) : Type 0 where
   pub received : (c : ℕ) → Chare j c → All (λ e. is-local j (e .sender) c ≡ true → e .received ≡ true → e .sn ≤ mem (e .sender) .sn c) (mem c .table)
   pub worked : (c s n : ℕ) → Chare j c → is-local j s c ≡ true → In (take (mem c .height) (x .worked c)) s n → n ≤ mem s .sn c
 
--- ---- a remote entry that is received or worked in the run has its ticket in the sender's log, if the sender's machine is normal
-abbrev pub Remembered : Job → Run → (ℕ → Status) → (ℕ → Memory) → Type 0
-Remembered j x status mem =
-    (c : ℕ) → Chare j c → All (λ e. is-local j (e .sender) c ≡ false → status (j .home (e .sender)) ≡ Up
-    → (e .received ≡ true) ⊎ (e .tn ≤ length (x .worked c)) → LoggedAs (mem (e .sender) .log) c (e .sn) (e .tn)) (mem c .table)
+-- ---- a remote entry above the stable height that is received or worked in the run has its ticket in the sender's log, if the sender's
+-- machine is normal; of the table l of chare c
+abbrev pub Remembers : Job → Run → (ℕ → ℕ) → (ℕ → Status) → (ℕ → Memory) → ℕ → List Entry → Type 0
+Remembers j x stable status mem c l =
+    All (λ e. stable c < e .tn → is-local j (e .sender) c ≡ false → status (j .home (e .sender)) ≡ Up
+    → (e .received ≡ true) ⊎ (e .tn ≤ length (x .worked c)) → LoggedAs (mem (e .sender) .log) c (e .sn) (e .tn)) l
 
--- ---- notes of local entries
-pub record Noted (j : Job) (x : Run) (mem : ℕ → Memory) (held : ℕ → Bool) (copy : ℕ → Memory) (notes : ℕ → List Note) : Type 0 where
+abbrev pub Remembered : Job → Run → (ℕ → ℕ) → (ℕ → Status) → (ℕ → Memory) → Type 0
+Remembered j x stable status mem = (c : ℕ) → Chare j c → Remembers j x stable status mem c (mem c .table)
+
+-- ---- notes of local entries; those above the stable height that are noted are safe with the buddy, in the table l of chare c
+abbrev pub Keeps : Job → (ℕ → ℕ) → (ℕ → Memory) → (ℕ → List Note) → ℕ → List Entry → Type 0
+Keeps j stable copy notes c l =
+    All (λ e. stable c < e .tn → is-local j (e .sender) c ≡ true → e .noted ≡ true → Kept j copy notes c (e .sender) (e .sn) (e .tn)) l
+
+pub record Noted (j : Job) (x : Run) (stable : ℕ → ℕ) (mem : ℕ → Memory) (held : ℕ → Bool) (copy : ℕ → Memory) (notes : ℕ → List Note) : Type 0 where
   pub unnoted : (c : ℕ) → Chare j c → All (λ e. e .noted ≡ false → (is-local j (e .sender) c ≡ true) × (length (x .worked c) < e .tn)) (mem c .table)
-  pub noted : (c : ℕ) → Chare j c → held (j .home c) ≡ true
-      → All (λ e. is-local j (e .sender) c ≡ true → e .noted ≡ true → Kept j copy notes c (e .sender) (e .sn) (e .tn)) (mem c .table)
+  pub noted : (c : ℕ) → Chare j c → held (j .home c) ≡ true → Keeps j stable copy notes c (mem c .table)
 
 -- ---- logs: the log l of a, whose SN counts are f
 pub record Log (j : Job) (x : Run) (stable : ℕ → ℕ) (mem : ℕ → Memory) (a : ℕ) (l : List Logged) (f : ℕ → ℕ) : Type 0 where
@@ -132,7 +139,7 @@ pub record Copy (j : Job) (x : Run) (stable : ℕ → ℕ) (mem copy : ℕ → M
       ⊎ ((y .tn ≤ stable (y .message .receiver)) × Place (x .worked (y .message .receiver)) (y .tn) c (y .message .sn))) (copy c .log)
   pub local : All (λ y. is-local j c (y .message .receiver) ≡ true → copy (y .message .receiver) .height < y .tn
       → Entered (copy (y .message .receiver) .table) c (y .message .sn) (y .tn)) (copy c .log)
-  pub table : All (λ e. (copy c .height < e .tn) × (e .noted ≡ true) × Tick x mem c (e .sender) (e .sn) (e .tn)) (copy c .table)
+  pub table : All (λ e. (copy c .height < e .tn) × Tick x mem c (e .sender) (e .sn) (e .tn)) (copy c .table)
 
 abbrev pub Copies : Job → Run → (ℕ → ℕ) → (ℕ → Memory) → (ℕ → Bool) → (ℕ → Memory) → Type 0
 Copies j x stable mem held copy = (c : ℕ) → Chare j c → held (j .home c) ≡ true → Copy j x stable mem copy c
@@ -142,6 +149,10 @@ abbrev pub Notes : Job → Run → (ℕ → Memory) → (ℕ → List Note) → 
 Notes j x mem notes =
     (p : ℕ) → All (λ n. (is-local j (n .sender) (n .receiver) ≡ true) × Chare j (n .receiver) × (j .home (n .receiver) ≡ p)
     × Tick x mem (n .receiver) (n .sender) (n .sn) (n .tn)) (notes p)
+
+-- ---- entries of message (s, n) above the stable height are safe with the buddy, in the table l of chare r
+abbrev pub Acks : World → ℕ → ℕ → ℕ → List Entry → Type 0
+Acks w s r n l = All (λ e. w .stable r < e .tn → e .sender ≡ s → e .sn ≡ n → Kept (w .job) (w .copy) (w .notes) r s n (e .tn)) l
 
 -- ---- the wire: what holds of a packet from s to r with SN n, by its content
 abbrev pub Fits : World → ℕ → ℕ → ℕ → Content → Type 0
@@ -157,7 +168,7 @@ Fits w s r n (NOTE t) =
     (is-local (w .job) s r ≡ true) × Tick (w .run) (w .mem) r s n t × (n ≤ w .mem s .sn r) × (w .status (w .job .home r) ≢ Down)
 Fits w s r n ACK =
     (is-local (w .job) s r ≡ true) × (n ≤ w .mem s .sn r)
-    × (w .held (w .job .home r) ≡ true → All (λ e. e .sender ≡ s → e .sn ≡ n → Kept (w .job) (w .copy) (w .notes) r s n (e .tn)) (w .mem r .table))
+    × (w .held (w .job .home r) ≡ true → Acks w s r n (w .mem r .table))
 
 pub record PacketOk (w : World) (p : Packet) : Type 0 where
   pub key : SentKey (w .run) (p .sender) (p .receiver) (p .sn)
@@ -172,8 +183,8 @@ pub record InvP (p : Pending) (w : World) : Type 0 where
   pub heights : Heights (w .job) (w .run) (w .stable) (w .status) (w .target) (w .mem) (w .held) (w .copy)
   pub tables : Tables (w .job) (w .run) (w .stable) (w .mem)
   pub ordered : Ordered (w .job) (w .run) (w .mem)
-  pub remembered : Remembered (w .job) (w .run) (w .status) (w .mem)
-  pub noted : Noted (w .job) (w .run) (w .mem) (w .held) (w .copy) (w .notes)
+  pub remembered : Remembered (w .job) (w .run) (w .stable) (w .status) (w .mem)
+  pub noted : Noted (w .job) (w .run) (w .stable) (w .mem) (w .held) (w .copy) (w .notes)
   pub logs : Logs (w .job) (w .run) (w .stable) (w .mem)
   pub copies : Copies (w .job) (w .run) (w .stable) (w .mem) (w .held) (w .copy)
   pub notes : Notes (w .job) (w .run) (w .mem) (w .notes)

@@ -9,13 +9,15 @@ use lib.ListN.{take}
 use Rattle.lists.specs.Tests.{either, true-not-false}
 use Rattle.lists.specs.Map.{upd, upd-ind, upd-ind₂, upd-other}
 use Rattle.lists.specs.Lists.{All, keep, keep-append, remove1, change1}
+use Rattle.protocol.specs.Work.{ports}
 use Rattle.protocol.specs.declared.Note.{Note}
 use Rattle.protocol.specs.declared.Packet.{Packet}
 use Rattle.protocol.specs.declared.Status.the-variants.{Down}
-use Rattle.protocol.specs.Parts.{Memory, State, with-table, with-live, with-memory, with-notes, with-wire, on}
+use Rattle.protocol.specs.Parts.{Memory, State, on}
+use Rattle.protocol.specs.Setters.{with-table, with-live, with-memory, with-notes, with-wire}
 use Rattle.protocol.specs.Restart.{is-ticketed-above}
 use Rattle.protocol.specs.CrashFree.{Injection, Work, Run, crash-free}
-use Rattle.protocol.specs.Demand3.{History}
+use Rattle.protocol.specs.History.{History}
 use Rattle.protocol.specs.Recovery.Laws.Restored.{restored-table-same}
 use Rattle.protocol.specs.Recovery.Invariant.World.{Pending, nothing-pending}
 use Rattle.protocol.specs.Recovery.Invariant.Clauses.{Chare, InvP}
@@ -40,7 +42,7 @@ pub record Carried (s : State) (h : History) : Type 0 where
   pub works : List Work
   pub run : Run
   pub stable : ℕ → ℕ
-  pub is-run : crash-free (s .job) (h .injections) works ≡ some run
+  pub is-run : crash-free (ports (s .job)) (h .injections) works ≡ some run
   pub chares : All (λ (i : Injection). i .chare ≢ 0) (h .injections)
   pub good : Good nothing-pending s run stable
   pub told : Told s h run stable

@@ -5,6 +5,7 @@ use mathlib.Core.Logic.{_⊎_, _≢_, inl, inr}
 use mathlib.Core.List.{List}
 use Prim.Native.Nat.{ℕ, _≤_}
 use native.Mathlib.Nat.{le-trans}
+use native.Mathlib.Omega.{arith}
 use Rattle.lists.specs.Lists.{_∈_, All}
 use Rattle.protocol.specs.declared.Message.{Message}
 use Rattle.protocol.specs.declared.Logged.{Logged}
@@ -18,15 +19,14 @@ use Rattle.protocol.specs.Parts.{Job}
 use Rattle.protocol.specs.Sending.{is-local}
 use Rattle.protocol.specs.Recovery.Run.Facts.{Sent}
 use Rattle.protocol.specs.Recovery.Invariant.World.{World, Tick, Stable, SentKey, Ticketed, Kept}
-use Rattle.protocol.specs.Recovery.Invariant.Clauses.{Log, Notes, Fits, PacketOk}
+use Rattle.protocol.specs.Recovery.Invariant.Clauses.{Log, Notes, Acks, Fits, PacketOk}
 
 -- what DATA from s to r with SN n says of the sender's log; what an ACK says of the receiver's entries
 abbrev pub Backed : World → ℕ → ℕ → ℕ → Type 0
 Backed w s r n = w .status (w .job .home s) ≡ Up → Ticketed (w .mem s .log) r n ⊎ Stable (w .run) (w .stable) r s n
 
 abbrev pub Acked : World → ℕ → ℕ → ℕ → Type 0
-Acked w s r n =
-    w .held (w .job .home r) ≡ true → All (λ e. e .sender ≡ s → e .sn ≡ n → Kept (w .job) (w .copy) (w .notes) r s n (e .tn)) (w .mem r .table)
+Acked w s r n = w .held (w .job .home r) ≡ true → Acks w s r n (w .mem r .table)
 
 -- the world v with the job j
 abbrev pub put-job : World → Job → World
@@ -90,12 +90,14 @@ pub still-backed : (w v : World)
     → (s r n : ℕ) → Backed w s r n → Backed (put-job v (w .job)) s r n
 still-backed w v normal ticketed stable s r n b u = elim (b (normal _ u)) [ inl t ↦ ticketed s r n t | inr t ↦ inr (stable r s n t) ]
 
--- no copy is new, and what is kept stays so; every entry was there, under its name and TN
+-- no copy is new, and what is kept stays so; no stable height falls; every entry was there, under its name and TN
 pub still-acked : (w v : World)
     → ((p : ℕ) → v .held p ≡ true → w .held p ≡ true)
+    → ((r : ℕ) → w .stable r ≤ v .stable r)
     → ((r s n t : ℕ) → v .held (w .job .home r) ≡ true → Kept (w .job) (w .copy) (w .notes) r s n t → Kept (w .job) (v .copy) (v .notes) r s n t)
     → ((r : ℕ) (e : Entry) → e ∈ v .mem r .table → (f : Entry) × (f ∈ w .mem r .table) × (f .sender ≡ e .sender) × (f .sn ≡ e .sn) × (f .tn ≡ e .tn))
     → (s r n : ℕ) → Acked w s r n → Acked (put-job v (w .job)) s r n
-still-acked w v held kept old s r n a u e i p q =
+still-acked w v held grows kept old s r n a u e i o p q =
     let (f, j, x, y, z) = old r e i in
-    kept r s n (e .tn) u (subst (λ t. Kept (w .job) (w .copy) (w .notes) r s n t) z (a (held _ u) f j (x ∙ p) (y ∙ q)))
+    let g = grows r in
+    kept r s n (e .tn) u (subst (λ t. Kept (w .job) (w .copy) (w .notes) r s n t) z (a (held _ u) f j (omega arith) (x ∙ p) (y ∙ q)))

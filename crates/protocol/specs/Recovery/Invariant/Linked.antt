@@ -3,7 +3,8 @@ use mathlib.Core.Path.{_≡_}
 use mathlib.Core.Logic.{_≢_}
 use Prim.Native.Nat.{ℕ}
 use Rattle.protocol.specs.declared.Status.the-variants.{Down}
-use Rattle.protocol.specs.Parts.{Memory, State, with-table}
+use Rattle.protocol.specs.Parts.{Memory, State}
+use Rattle.protocol.specs.Setters.{with-table}
 use Rattle.protocol.specs.Restart.{restored-table}
 use Rattle.protocol.specs.CrashFree.{Run}
 use Rattle.protocol.specs.Recovery.Invariant.World.{World}

@@ -8,7 +8,7 @@ use Rattle.lists.specs.Map.{upd}
 use Rattle.lists.specs.Lists.{All, all-nil, all-snoc}
 use Rattle.protocol.specs.declared.Message.{Message}
 use Rattle.protocol.specs.Parts.{Job}
-use Rattle.protocol.specs.Work.{receivers}
+use Rattle.protocol.specs.Work.{receivers, ports}
 use Rattle.protocol.specs.CrashFree.{Run}
 use Rattle.protocol.specs.Recovery.Run.Fold.{Local, local-start, local-send, local-send-all, local-work, follow, folded, prefix-mem, send-all-grows}
 use Rattle.protocol.specs.Recovery.Run.Facts.{Sent}
@@ -48,7 +48,7 @@ owed-sent x c d (r ∷ l) value hops h = (
 )
 
 -- ---- receivers: whatever holds of all that a chare may send to holds of all that its outbox is to
-module _ (P : ℕ → Type 0) (j : Job) (c : ℕ) (ports : (hops : ℕ) → All P (receivers j c hops)) where
+module _ (P : ℕ → Type 0) (j : Job) (c : ℕ) (known : (hops : ℕ) → All P (receivers (ports j) c hops)) where
   send-all-to : (d : Local) (l : List ℕ) (value hops : ℕ) → All P l → All (λ m. P (m .receiver)) (d .out) → All (λ m. P (m .receiver)) (local-send-all c d l value hops .out)
   unfolding local-send-all local-send
   send-all-to d [] value hops p h = h
@@ -57,7 +57,7 @@ module _ (P : ℕ → Type 0) (j : Job) (c : ℕ) (ports : (hops : ℕ) → All 
   follow-to : (d : Local) (l : List Message) → All (λ m. P (m .receiver)) (d .out) → All (λ m. P (m .receiver)) (follow j c d l .out)
   unfolding follow local-work
   follow-to d [] h = h
-  follow-to d (m ∷ l) h = follow-to (local-work j c d m) l (send-all-to _ (receivers j c (m .hops)) _ (m .hops - 1) (ports (m .hops)) h)
+  follow-to d (m ∷ l) h = follow-to (local-work j c d m) l (send-all-to _ (receivers (ports j) c (m .hops)) _ (m .hops - 1) (known (m .hops)) h)
 
   pub folded-to : (l : List Message) → All (λ m. P (m .receiver)) (folded j c l .out)
   unfolding folded local-start

@@ -77,12 +77,12 @@ module _ {p : Pending} {w : World} (inv : InvP p w) (mem : ℕ → Memory) (same
         (inv .ordered .worked c s n k a (subst (λ m. In (take (m .height) (w .run .worked c)) s n) (same c (inr k)) b));
   }
 
-  remembered : Remembered (w .job) (w .run) (w .status) mem
-  remembered c k e i a b d =
+  remembered : Remembered (w .job) (w .run) (w .stable) (w .status) mem
+  remembered c k e i o a b d =
       let g = old k i in
-      put (λ m. LoggedAs (m .log) c (e .sn) (e .tn)) (key-sender (inv .domain) (inv .tables c k .sent e g)) (inv .remembered c k e g a b d)
+      put (λ m. LoggedAs (m .log) c (e .sn) (e .tn)) (key-sender (inv .domain) (inv .tables c k .sent e g)) (inv .remembered c k e g o a b d)
 
-  noted : Noted (w .job) (w .run) mem (w .held) (w .copy) (w .notes)
+  noted : Noted (w .job) (w .run) (w .stable) mem (w .held) (w .copy) (w .notes)
   noted = record {
     unnoted = λ c k e i. inv .noted .unnoted c k e (old k i);
     noted = λ c k u e i. inv .noted .noted c k u e (old k i);
@@ -114,7 +114,7 @@ module _ {p : Pending} {w : World} (inv : InvP p w) (mem : ℕ → Memory) (same
           | inr h ↦ inr h
         ];
         local = m .local;
-        table = λ e i. let (a, b, t) = m .table e i in (a, b, tick k t);
+        table = λ e i. let (a, t) = m .table e i in (a, tick k t);
       }
 
   notes : Notes (w .job) (w .run) mem (w .notes)

@@ -7,7 +7,8 @@ use Rattle.lists.specs.Tests.{eq?}
 use Rattle.lists.specs.Map.{upd-ind}
 use Rattle.lists.specs.Lists.{_∈_}
 use Rattle.protocol.specs.declared.Logged.{Logged}
-use Rattle.protocol.specs.Parts.{Memory, State, with-memory}
+use Rattle.protocol.specs.Parts.{Memory, State}
+use Rattle.protocol.specs.Setters.{with-memory}
 use Rattle.protocol.specs.Recovery.Invariant.Clauses.{Sender}
 
 abbrev pub Silent : State → Type 0

@@ -1,8 +1,8 @@
 -- Laws on tickets: a message has one, and it stays.
-use mathlib.Core.Path.{_≡_, sym, ap, _∙_, subst}
+use mathlib.Core.Path.{_≡_, sym, ap, _∙_, subst, subst₃}
 use mathlib.Core.Logic.{_⊎_, inl, inr}
 use mathlib.Core.List.{List}
-use Prim.Native.Nat.{ℕ, _≤_}
+use Prim.Native.Nat.{ℕ, _≤_, _<_}
 use native.Mathlib.Omega.{arith}
 use lib.ListN.{length}
 use Rattle.lists.specs.Tests.{lt?}
@@ -13,9 +13,9 @@ use Rattle.protocol.specs.Parts.{Memory}
 use Rattle.protocol.specs.CrashFree.{Run}
 use Rattle.protocol.specs.Recovery.Run.Facts.{message-key}
 use Rattle.protocol.specs.Recovery.Laws.Marks.{In}
-use Rattle.protocol.specs.Recovery.Invariant.World.{Place, Entered, Tick, Stable}
-use Rattle.protocol.specs.Recovery.Invariant.Clauses.{Table}
-use Rattle.protocol.specs.Recovery.Laws.Places.{place-mono, place-in, place-once}
+use Rattle.protocol.specs.Recovery.Invariant.World.{World, Pending, Place, Entered, Tick, Stable}
+use Rattle.protocol.specs.Recovery.Invariant.Clauses.{Chare, Table, InvP}
+use Rattle.protocol.specs.Recovery.Laws.Places.{place-mono, place-in, place-bound, place-same, place-once}
 use Rattle.protocol.specs.Recovery.Laws.Lookups.{entry-key}
 
 pub tick-run : (x y : Run) (mem : ℕ → Memory) (r : ℕ) {s n t : ℕ} → ((c : ℕ) → Prefix (x .worked c) (y .worked c)) → Tick x mem r s n t → Tick y mem r s n t
@@ -28,6 +28,23 @@ tick-mem x mem mem′ r g {s} {n} {t} (inr e) = inr (g s n t e)
 
 pub stable-mono : {x y : Run} {stable stable′ : ℕ → ℕ} {r s n : ℕ} → ((c : ℕ) → Prefix (x .worked c) (y .worked c)) → ((c : ℕ) → stable c ≤ stable′ c) → Stable x stable r s n → Stable y stable′ r s n
 stable-mono {r = r} g h p = let a = h r in let b = p .low in record { tn = p .tn; low = omega arith; worked = place-mono (g r) (p .worked) }
+
+module _ {x : Run} {r h : ℕ} {l : List Entry} (table : Table x r h l) {s n t : ℕ} where
+  -- a ticket that the run has reached was worked
+  pub tick-place : t ≤ length (x .worked r) → Place (x .worked r) t s n ⊎ Entered l s n t → Place (x .worked r) t s n
+  tick-place k (inl p) = p
+  tick-place k (inr p) =
+      let e = p .of-tn in
+      subst₃ (Place (x .worked r)) (p .of-tn) (p .of-sender) (p .of-sn) (table .past (p .entry) (p .member) (omega arith))
+
+  -- a ticket above the stable height has an entry
+  pub tick-entered : h < t → Place (x .worked r) t s n ⊎ Entered l s n t → Entered l s n t
+  tick-entered k (inr p) = p
+  tick-entered k (inl p) =
+      let last = place-bound p .1 in
+      let (e, i, q) = table .complete t k last in
+      let (a, b) = place-same (subst (λ t. Place (x .worked r) t (e .sender) (e .sn)) q (table .past e i (subst (_≤ length (x .worked r)) (sym q) last))) p in
+      record { entry = e; member = i; of-sender = a; of-sn = b; of-tn = q }
 
 -- an entry of the message has its ticket
 module _ {x : Run} {r h : ℕ} {l : List Entry} (distinct : NoDup message-key (x .worked r)) (table : Table x r h l) where
@@ -46,15 +63,19 @@ module _ {x : Run} {r h : ℕ} {l : List Entry} (distinct : NoDup message-key (x
   tick-entry (inl p) = place-entry p
   tick-entry (inr p) = entered-entry p
 
-  -- a ticket at or below the stable height was worked
-  pub tick-low : {s n t : ℕ} → t ≤ h → Place (x .worked r) t s n ⊎ Entered l s n t → Place (x .worked r) t s n
-  tick-low k (inl p) = p
-  tick-low k (inr p) = let a = table .above (p .entry) (p .member) in let b = p .of-tn in absurd (omega arith)
+  -- a message that was worked has no other ticket
+  pub tick-once : {s n t u : ℕ} → Place (x .worked r) t s n → Place (x .worked r) u s n ⊎ Entered l s n u → t ≡ u
+  tick-once p (inl q) = place-once distinct p q
+  tick-once p (inr q) = sym (place-entry p (q .entry) (q .member) (q .of-sender) (q .of-sn)) ∙ q .of-tn
 
+-- no entry above the stable height has a stable key
 pub stable-no-entry : {x : Run} {r : ℕ} {stable : ℕ → ℕ} {l : List Entry} → NoDup message-key (x .worked r) → Table x r (stable r) l
-    → {s n : ℕ} → Stable x stable r s n → (e : Entry) → e ∈ l → e .sender ≡ s → e .sn ≡ n → ⊥
-stable-no-entry distinct table p e i a b =
+    → {s n : ℕ} → Stable x stable r s n → (e : Entry) → e ∈ l → stable r < e .tn → e .sender ≡ s → e .sn ≡ n → ⊥
+stable-no-entry distinct table p e i o a b =
     let q = tick-entry distinct table (inl (p .worked)) e i a b in
-    let k = table .above e i in
     let l = p .low in
     omega arith
+
+-- the run has reached the stable height
+pub stable-reached : {p : Pending} {w : World} → InvP p w → (c : ℕ) → Chare (w .job) c → w .stable c ≤ length (w .run .worked c)
+stable-reached inv c k = let a = inv .heights .above-stable c k in let b = inv .images .image c k .reached in omega arith

@@ -16,7 +16,7 @@ use Rattle.protocol.specs.Parts.{Memory}
 use Rattle.protocol.specs.Window.{Bits, admitted, worked, in-window, bit-set, ones, rise, risen-mark, slid-window}
 use Rattle.protocol.specs.Working.{work-entry}
 use Rattle.protocol.specs.Packets.{is-worked}
-use Rattle.protocol.specs.Demand3.{message-of}
+use Rattle.protocol.specs.History.{message-of}
 
 -- ---- a message of sender s with SN n is in the list
 pub record In (l : List Message) (s n : ℕ) : Type 0 where

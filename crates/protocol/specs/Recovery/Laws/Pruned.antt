@@ -1,10 +1,8 @@
 -- The table that a checkpoint leaves: the entries above the height, all noted.
-use mathlib.Core.Path.{_≡_, refl, sym, ap, _∙_, subst, subst₃}
-use mathlib.Core.Logic.{_⊎_, inl, inr}
+use mathlib.Core.Path.{_≡_, refl, sym, ap, _∙_, subst}
 use mathlib.Core.List.{List, [], _∷_, map}
 use Prim.Native.Nat.{ℕ, _≤_, _<_}
 use native.Mathlib.Omega.{arith}
-use lib.ListN.{length}
 use borrow.Author.Tests.{ltb-true, lt-ltb}
 use Rattle.lists.specs.Lists.{_∈_, All, keep, keep-mem, mem-keep, map-mem, mem-map}
 use Rattle.lists.specs.Keys.{NoDup, nodup-keep}
@@ -12,10 +10,9 @@ use Rattle.protocol.specs.declared.Entry.{Entry}
 use Rattle.protocol.specs.Tickets.{note-entry}
 use Rattle.protocol.specs.Checkpoint.{above-height}
 use Rattle.protocol.specs.CrashFree.{Run}
-use Rattle.protocol.specs.Demand3.{message-of}
-use Rattle.protocol.specs.Recovery.Invariant.World.{Place, Entered}
+use Rattle.protocol.specs.History.{message-of}
+use Rattle.protocol.specs.Recovery.Invariant.World.{Entered}
 use Rattle.protocol.specs.Recovery.Invariant.Clauses.{Table}
-use Rattle.protocol.specs.Recovery.Laws.Places.{place-bound, place-same}
 use Rattle.protocol.specs.Recovery.Laws.Lookups.{entry-key}
 
 -- a map that leaves the keys
@@ -24,23 +21,6 @@ unfolding NoDup
 nodup-map k k′ f same [] h = tt
 nodup-map k k′ f same (x ∷ l) h =
     ((λ y i e. let (a, m, q) = mem-map f l i in h .0 a m (sym (same a) ∙ ap k q ∙ e ∙ same x)), nodup-map k k′ f same l (h .1))
-
--- ---- entries and places
-module _ {x : Run} {r h : ℕ} {l : List Entry} (table : Table x r h l) {s n t : ℕ} where
-  -- an entry whose TN the run has passed was worked there
-  pub entered-place : t ≤ length (x .worked r) → Entered l s n t → Place (x .worked r) t s n
-  entered-place k p =
-      let e = p .of-tn in
-      subst₃ (Place (x .worked r)) (p .of-tn) (p .of-sender) (p .of-sn) (table .past (p .entry) (p .member) (omega arith))
-
-  -- a ticket above the stable height has an entry
-  pub tick-entered : h < t → Place (x .worked r) t s n ⊎ Entered l s n t → Entered l s n t
-  tick-entered k (inr p) = p
-  tick-entered k (inl p) =
-      let last = place-bound p .1 in
-      let (e, i, q) = table .complete t k last in
-      let (a, b) = place-same (subst (λ t. Place (x .worked r) t (e .sender) (e .sn)) q (table .past e i (subst (_≤ length (x .worked r)) (sym q) last))) p in
-      record { entry = e; member = i; of-sender = a; of-sn = b; of-tn = q }
 
 -- ---- the table
 unfoldable pub pruned-table : ℕ → List Entry → List Entry
@@ -69,7 +49,7 @@ table-pruned {x} {c} {h} {k} {l} table up = record {
   complete = λ t a b.
       let (e, i, q) = table .complete t (omega arith) b in
       (note-entry e, mem-pruned k i (omega arith), q);
-  above = all-pruned _ k l (λ e i a. a);
+  positive = all-pruned _ k l (λ e i _. table .positive e i);
   tns = nodup-map _ _ note-entry (λ e. refl) (keep (above-height k) l) (nodup-keep _ (above-height k) l (table .tns));
   keys = nodup-map entry-key entry-key note-entry (λ e. refl) (keep (above-height k) l) (nodup-keep entry-key (above-height k) l (table .keys));
   sent = all-pruned _ k l (λ e i _. table .sent e i);

@@ -42,7 +42,7 @@ local-take x m = record { state = work (x .state) (m .value); sn = x .sn; out = 
 unfoldable pub local-work : Job → ℕ → Local → Message → Local
 local-work j c x m =
     let y = local-take x m in
-    local-send-all c y (receivers j c (m .hops)) (sent-value (y .state)) (m .hops - 1)
+    local-send-all c y (receivers (ports j) c (m .hops)) (sent-value (y .state)) (m .hops - 1)
 
 unfoldable pub follow : Job → ℕ → Local → List Message → Local
 follow j c x [] = x
@@ -81,7 +81,7 @@ local-send-all-state c x [] value hops = refl
 local-send-all-state c x (r ∷ l) value hops = local-send-all-state c (local-send c x r value hops) l value hops
 
 pub local-work-sends : (j : Job) (c : ℕ) (x : Local) (m : Message)
-    → local-work j c x m ≡ local-send-all c (local-take x m) (receivers j c (m .hops)) (sent-value (local-take x m .state)) (m .hops - 1)
+    → local-work j c x m ≡ local-send-all c (local-take x m) (receivers (ports j) c (m .hops)) (sent-value (local-take x m .state)) (m .hops - 1)
 unfolding local-work
 local-work-sends j c x m = refl
 
@@ -169,7 +169,7 @@ unfolding port
 port-chare r = either (eqb r 0) (λ e. rw e (all-nil _)) (λ e. rw e (all-cons (eqb-false r 0 e) (all-nil _)))
 
 -- Port 0 is none, so what a chare sends goes to chares, never to the desk.
-pub receivers-chares : (j : Job) (c hops : ℕ) → All (λ n. n ≢ 0) (receivers j c hops)
+pub receivers-chares : (j : Job) (c hops : ℕ) → All (λ n. n ≢ 0) (receivers (ports j) c hops)
 unfolding receivers ports
 receivers-chares j c hops = either (eqb hops 0)
     (λ e. rw e (all-nil _))

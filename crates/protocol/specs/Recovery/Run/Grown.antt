@@ -54,7 +54,7 @@ module _ {x y : Run} (g : Grown x y) where
   pub table-grown : {c h : ℕ} {l : List Entry} → y .worked c ≡ x .worked c → Table x c h l → Table y c h l
   table-grown {c} {h} {l} e t = record {
     complete = λ k u v. t .complete k u (rw e at v);
-    above = t .above;
+    positive = t .positive;
     tns = t .tns;
     keys = t .keys;
     sent = λ f i. key-grown (t .sent f i);

@@ -5,6 +5,7 @@ use mathlib.Core.List.{List, [], _∷_, _++_, List·Memᴰ·head as here, List·
 use mathlib.Core.Option.{Option, some, none}
 use Prim.Native.Nat.{ℕ}
 use Rattle.lists.specs.Lists.{All}
+use Rattle.protocol.specs.Work.{ports}
 use Rattle.protocol.specs.declared.Message.{Message}
 use Rattle.protocol.specs.Parts.{Job}
 use Rattle.protocol.specs.CrashFree.{Injection, Work, Run, run-start, run-send, inject-all, run-work, found-work, one-work, then-work, work-all, crash-free}
@@ -18,57 +19,57 @@ use Rattle.protocol.specs.Recovery.Run.Order.{still-found, send-work}
 abbrev pub ForChares : List Injection → Type 0
 ForChares is = All (λ i. i .chare ≢ 0) is
 
-pub started : (j : Job) → crash-free j [] [] ≡ some run-start
+pub started : (j : Job) → crash-free (ports j) [] [] ≡ some run-start
 unfolding crash-free work-all inject-all
 started j = refl
 
 -- ---- one work in a list
 module _ (j : Job) where
-  none-all : (l : List Work) → work-all j none l ≡ none
+  none-all : (l : List Work) → work-all (ports j) none l ≡ none
   unfolding work-all then-work
   none-all [] = refl
   none-all (w ∷ l) = none-all l
 
   -- a work whose message is found
-  does-work : (x : Run) (w : Work) (m : Message) → x .unworked (w .sender) (w .receiver) (w .sn) ≡ some m → then-work j (some x) w ≡ some (run-work j x w m)
+  does-work : (x : Run) (w : Work) (m : Message) → x .unworked (w .sender) (w .receiver) (w .sn) ≡ some m → then-work (ports j) (some x) w ≡ some (run-work (ports j) x w m)
   unfolding then-work one-work found-work
-  does-work x w m e = ap (found-work j x w) e
+  does-work x w m e = ap (found-work (ports j) x w) e
 
   -- a list of works that gives a run finds the message of its first
   record First (x : Run) (w : Work) (l : List Work) (y : Run) : Type 0 where
     message : Message
     found : x .unworked (w .sender) (w .receiver) (w .sn) ≡ some message
-    rest : work-all j (some (run-work j x w message)) l ≡ some y
+    rest : work-all (ports j) (some (run-work (ports j) x w message)) l ≡ some y
 
-  first : (x : Run) (w : Work) (l : List Work) (y : Run) → work-all j (some x) (w ∷ l) ≡ some y → First x w l y
+  first : (x : Run) (w : Work) (l : List Work) (y : Run) → work-all (ports j) (some x) (w ∷ l) ≡ some y → First x w l y
   unfolding work-all then-work one-work found-work
   first x w l y e = go (x .unworked (w .sender) (w .receiver) (w .sn)) refl e
     where
-      go : (o : Option Message) → x .unworked (w .sender) (w .receiver) (w .sn) ≡ o → work-all j (found-work j x w o) l ≡ some y → First x w l y
+      go : (o : Option Message) → x .unworked (w .sender) (w .receiver) (w .sn) ≡ o → work-all (ports j) (found-work (ports j) x w o) l ≡ some y → First x w l y
       go none q e = some-none e (none-all l)
       go (some m) q e = record { message = m; found = q; rest = e }
 
-  works-ok : (x : Run) (ws : List Work) (y : Run) → RunOk j x → work-all j (some x) ws ≡ some y → RunOk j y
+  works-ok : (x : Run) (ws : List Work) (y : Run) → RunOk j x → work-all (ports j) (some x) ws ≡ some y → RunOk j y
   unfolding work-all
   works-ok x [] y ok e = subst (RunOk j) (some-inj refl e) ok
   works-ok x (w ∷ ws) y ok e =
       let f = first x w ws y e in
-      works-ok (run-work j x w (f .message)) ws y (work-ok j x ok w (f .message) (f .found)) (f .rest)
+      works-ok (run-work (ports j) x w (f .message)) ws y (work-ok j x ok w (f .message) (f .found)) (f .rest)
 
   -- a send of the desk before some works is one after them
-  send-works : (c value hops : ℕ) (x : Run) (ws : List Work) (y : Run) → RunOk j x → work-all j (some x) ws ≡ some y
-      → work-all j (some (run-send x 0 c value hops)) ws ≡ some (run-send y 0 c value hops)
+  send-works : (c value hops : ℕ) (x : Run) (ws : List Work) (y : Run) → RunOk j x → work-all (ports j) (some x) ws ≡ some y
+      → work-all (ports j) (some (run-send x 0 c value hops)) ws ≡ some (run-send y 0 c value hops)
   unfolding work-all
   send-works c value hops x [] y ok e = ap (λ z. some (run-send z 0 c value hops)) (some-inj refl e)
   send-works c value hops x (w ∷ ws) y ok e =
       let f = first x w ws y e in
-      ap (λ o. work-all j o ws) (does-work _ w (f .message) (still-found j x ok c value hops w (f .message) (f .found)) ∙ ap some (send-work j x ok c value hops w (f .message) (f .found)))
-      ∙ send-works c value hops (run-work j x w (f .message)) ws y (work-ok j x ok w (f .message) (f .found)) (f .rest)
+      ap (λ o. work-all (ports j) o ws) (does-work _ w (f .message) (still-found j x ok c value hops w (f .message) (f .found)) ∙ ap some (send-work j x ok c value hops w (f .message) (f .found)))
+      ∙ send-works c value hops (run-work (ports j) x w (f .message)) ws y (work-ok j x ok w (f .message) (f .found)) (f .rest)
 
-  works-snoc : (o : Option Run) (ws : List Work) (w : Work) → work-all j o (ws ++ (w ∷ [])) ≡ then-work j (work-all j o ws) w
+  works-snoc : (o : Option Run) (ws : List Work) (w : Work) → work-all (ports j) o (ws ++ (w ∷ [])) ≡ then-work (ports j) (work-all (ports j) o ws) w
   unfolding work-all
   works-snoc o [] w = refl
-  works-snoc o (v ∷ ws) w = works-snoc (then-work j o v) ws w
+  works-snoc o (v ∷ ws) w = works-snoc (then-work (ports j) o v) ws w
 
   pub desk-ok : (x : Run) (c value hops : ℕ) → c ≢ 0 → RunOk j x → RunOk j (run-send x 0 c value hops)
   unfolding run-send
@@ -87,18 +88,18 @@ inject-snoc x (k ∷ is) i = inject-snoc (run-send x 0 (k .chare) (k .value) (k 
 
 -- ---- the laws
 module _ (j : Job) (is : List Injection) (ws : List Work) (x : Run) where
-  pub run-ok : ForChares is → crash-free j is ws ≡ some x → RunOk j x
+  pub run-ok : ForChares is → crash-free (ports j) is ws ≡ some x → RunOk j x
   unfolding crash-free
   run-ok chares e = works-ok j (inject-all run-start is) ws x (injected-ok j run-start is chares (ok-start j)) e
 
-  pub inject-more : ForChares is → (i : Injection) → crash-free j is ws ≡ some x
-      → crash-free j (is ++ (i ∷ [])) ws ≡ some (run-send x 0 (i .chare) (i .value) (i .hops))
+  pub inject-more : ForChares is → (i : Injection) → crash-free (ports j) is ws ≡ some x
+      → crash-free (ports j) (is ++ (i ∷ [])) ws ≡ some (run-send x 0 (i .chare) (i .value) (i .hops))
   unfolding crash-free
   inject-more chares i e =
-      ap (λ y. work-all j (some y) ws) (inject-snoc run-start is i)
+      ap (λ y. work-all (ports j) (some y) ws) (inject-snoc run-start is i)
       ∙ send-works j (i .chare) (i .value) (i .hops) (inject-all run-start is) ws x (injected-ok j run-start is chares (ok-start j)) e
 
-  pub work-more : crash-free j is ws ≡ some x → (w : Work) (m : Message) → x .unworked (w .sender) (w .receiver) (w .sn) ≡ some m
-      → crash-free j is (ws ++ (w ∷ [])) ≡ some (run-work j x w m)
+  pub work-more : crash-free (ports j) is ws ≡ some x → (w : Work) (m : Message) → x .unworked (w .sender) (w .receiver) (w .sn) ≡ some m
+      → crash-free (ports j) is (ws ++ (w ∷ [])) ≡ some (run-work (ports j) x w m)
   unfolding crash-free
-  work-more e w m found = works-snoc j _ ws w ∙ ap (λ o. then-work j o w) e ∙ does-work j x w m found
+  work-more e w m found = works-snoc j _ ws w ∙ ap (λ o. then-work (ports j) o w) e ∙ does-work j x w m found

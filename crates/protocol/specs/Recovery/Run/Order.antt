@@ -7,7 +7,7 @@ use Prim.Native.Nat.{ℕ, _+_, _-_}
 use Rattle.lists.specs.Map.{upd, upd-other, upd-comm}
 use Rattle.protocol.specs.declared.Message.{Message}
 use Rattle.protocol.specs.Parts.{Job}
-use Rattle.protocol.specs.Work.{receivers, sent-value}
+use Rattle.protocol.specs.Work.{receivers, sent-value, ports}
 use Rattle.protocol.specs.CrashFree.{Run, Work, upd3, run-send, run-send-all, run-take, run-work}
 use Rattle.protocol.specs.Recovery.Run.Nested.{upd3-comm, upd3-other}
 use Rattle.protocol.specs.Recovery.Run.Facts.{RunOk, sent-old}
@@ -57,8 +57,8 @@ module _ (j : Job) (x : Run) (ok : RunOk j x) (r value hops : ℕ) (w : Work) (m
   unfolding run-send
   still-found = upd3-other 0 r _ _ (x .unworked) (w .sender) (w .receiver) (w .sn) key-old ∙ found
 
-  pub send-work : run-work j (run-send x 0 r value hops) w m ≡ run-send (run-work j x w m) 0 r value hops
+  pub send-work : run-work (ports j) (run-send x 0 r value hops) w m ≡ run-send (run-work (ports j) x w m) 0 r value hops
   unfolding run-work run-send
   send-work =
-      ap (λ y. run-send-all y (w .receiver) (receivers j (w .receiver) (m .hops)) (sent-value (y .state (w .receiver))) (m .hops - 1)) (send-take x 0 r value hops w m key-old)
-      ∙ send-send-all 0 r value hops (w .receiver) (λ e. found-chare ok w m found (sym e)) (run-take x w m) (receivers j (w .receiver) (m .hops)) _ _
+      ap (λ y. run-send-all y (w .receiver) (receivers (ports j) (w .receiver) (m .hops)) (sent-value (y .state (w .receiver))) (m .hops - 1)) (send-take x 0 r value hops w m key-old)
+      ∙ send-send-all 0 r value hops (w .receiver) (λ e. found-chare ok w m found (sym e)) (run-take x w m) (receivers (ports j) (w .receiver) (m .hops)) _ _

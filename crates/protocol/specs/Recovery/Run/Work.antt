@@ -11,7 +11,7 @@ use Rattle.lists.specs.Lists.{_∈_, All, all-snoc, prefix-refl, prefix-snoc}
 use Rattle.lists.specs.Keys.{NoDup, nodup-snoc}
 use Rattle.protocol.specs.declared.Message.{Message}
 use Rattle.protocol.specs.Parts.{Job}
-use Rattle.protocol.specs.Work.{work, receivers, sent-value}
+use Rattle.protocol.specs.Work.{work, receivers, sent-value, ports}
 use Rattle.protocol.specs.CrashFree.{Run, Work, upd3, run-take, run-work}
 use Rattle.protocol.specs.Recovery.Laws.Options.{some-none, some-inj}
 use Rattle.protocol.specs.Recovery.Run.Fold.{Local, local-take, local-send-all, local-work, folded, folded-snoc, sn-grows, receivers-chares}
@@ -94,57 +94,57 @@ module _ {made : ℕ → Local} {x : Run} (ok : Consistent made x) (w : Work) (m
 
 -- ---- a work: what is taken is worked, and its sends follow
 module _ (j : Job) (x : Run) (w : Work) (m : Message) where
-  pub work-worked : run-work j x w m .worked ≡ upd (w .receiver) (x .worked (w .receiver) ++ (m ∷ [])) (x .worked)
+  pub work-worked : run-work (ports j) x w m .worked ≡ upd (w .receiver) (x .worked (w .receiver) ++ (m ∷ [])) (x .worked)
   unfolding run-work run-take
   work-worked = send-all-worked (w .receiver) _ _ (run-take x w m) _
 
-  pub work-state : run-work j x w m .state ≡ upd (w .receiver) (work (x .state (w .receiver)) (m .value)) (x .state)
+  pub work-state : run-work (ports j) x w m .state ≡ upd (w .receiver) (work (x .state (w .receiver)) (m .value)) (x .state)
   unfolding run-work run-take
   work-state = send-all-state (w .receiver) _ _ (run-take x w m) _
 
-  pub work-sn-other : (a : ℕ) → a ≢ w .receiver → run-work j x w m .sn a ≡ x .sn a
+  pub work-sn-other : (a : ℕ) → a ≢ w .receiver → run-work (ports j) x w m .sn a ≡ x .sn a
   unfolding run-work run-take
   work-sn-other a h = send-all-sn-other (w .receiver) _ _ (run-take x w m) _ a h
 
 module _ (j : Job) (x : Run) (ok : RunOk j x) (w : Work) (m : Message) (found : x .unworked (w .sender) (w .receiver) (w .sn) ≡ some m) where
   -- what the receiver makes of the message is what the fold of the longer list has
-  made-more : local-send-all (w .receiver) (local-take (folded j (w .receiver) (x .worked (w .receiver))) m) (receivers j (w .receiver) (m .hops)) (sent-value (run-take x w m .state (w .receiver))) (m .hops - 1)
+  made-more : local-send-all (w .receiver) (local-take (folded j (w .receiver) (x .worked (w .receiver))) m) (receivers (ports j) (w .receiver) (m .hops)) (sent-value (run-take x w m .state (w .receiver))) (m .hops - 1)
       ≡ folded j (w .receiver) (x .worked (w .receiver) ++ (m ∷ []))
   unfolding local-work
   made-more =
       let e = take-consistent ok w m found .states (w .receiver) (found-chare ok w m found) ∙ ap (λ l. l .state) (upd-same (w .receiver) _ (λ c. folded j c (x .worked c))) in
-      ap (λ v. local-send-all (w .receiver) (local-take (folded j (w .receiver) (x .worked (w .receiver))) m) (receivers j (w .receiver) (m .hops)) (sent-value v) (m .hops - 1)) e
+      ap (λ v. local-send-all (w .receiver) (local-take (folded j (w .receiver) (x .worked (w .receiver))) m) (receivers (ports j) (w .receiver) (m .hops)) (sent-value v) (m .hops - 1)) e
       ∙ sym (folded-snoc j (w .receiver) (x .worked (w .receiver)) m)
 
-  pub work-ok : RunOk j (run-work j x w m)
+  pub work-ok : RunOk j (run-work (ports j) x w m)
   unfolding run-work
   work-ok = consistent-same
-      (send-all-consistent (w .receiver) _ _ _ (run-take x w m) _ (receivers j (w .receiver) (m .hops)) (receivers-chares j (w .receiver) (m .hops)) (take-consistent ok w m found))
+      (send-all-consistent (w .receiver) _ _ _ (run-take x w m) _ (receivers (ports j) (w .receiver) (m .hops)) (receivers-chares j (w .receiver) (m .hops)) (take-consistent ok w m found))
       _
       (λ c _. upd-ind₂ (λ c d l. d ≡ folded j c l) (w .receiver) _ _ (λ c. folded j c (x .worked c)) (x .worked) made-more (λ c _. refl) c ∙ ap (λ f. folded j c (f c)) (sym (work-worked j x w m)))
 
-  pub sent-after-work : (y : Message) → Sent x y → Sent (run-work j x w m) y
+  pub sent-after-work : (y : Message) → Sent x y → Sent (run-work (ports j) x w m) y
   unfolding run-work
   sent-after-work y i =
-      sent-after-all (w .receiver) _ _ _ (run-take x w m) (receivers j (w .receiver) (m .hops)) (receivers-chares j (w .receiver) (m .hops)) (take-consistent ok w m found) y (sent-kept ok w m found y i)
+      sent-after-all (w .receiver) _ _ _ (run-take x w m) (receivers (ports j) (w .receiver) (m .hops)) (receivers-chares j (w .receiver) (m .hops)) (take-consistent ok w m found) y (sent-kept ok w m found y i)
 
   -- what is newly sent stands in the receiver's outbox
-  pub sent-before-work : (y : Message) → Sent (run-work j x w m) y → Sent x y ⊎ (y ∈ folded j (w .receiver) (x .worked (w .receiver) ++ (m ∷ [])) .out)
+  pub sent-before-work : (y : Message) → Sent (run-work (ports j) x w m) y → Sent x y ⊎ (y ∈ folded j (w .receiver) (x .worked (w .receiver) ++ (m ∷ [])) .out)
   unfolding run-work
   sent-before-work y i =
-      elim (sent-before-all (w .receiver) _ _ (found-chare ok w m found) _ (run-take x w m) _ (receivers j (w .receiver) (m .hops)) (receivers-chares j (w .receiver) (m .hops)) (take-consistent ok w m found) y i) [
+      elim (sent-before-all (w .receiver) _ _ (found-chare ok w m found) _ (run-take x w m) _ (receivers (ports j) (w .receiver) (m .hops)) (receivers-chares j (w .receiver) (m .hops)) (take-consistent ok w m found) y i) [
         | inl h ↦ inl (sent-back ok w m found y h)
         | inr h ↦ inr (subst (λ l. y ∈ l .out) made-more h)
       ]
 
   -- the receiver's counts are those of the longer list
-  pub work-sn : run-work j x w m .sn (w .receiver) ≡ folded j (w .receiver) (x .worked (w .receiver) ++ (m ∷ [])) .sn
+  pub work-sn : run-work (ports j) x w m .sn (w .receiver) ≡ folded j (w .receiver) (x .worked (w .receiver) ++ (m ∷ [])) .sn
   work-sn = work-ok .counts (w .receiver) (found-chare ok w m found)
       ∙ ap (λ l. folded j (w .receiver) l .sn) (ap (λ f. f (w .receiver)) (work-worked j x w m) ∙ upd-same (w .receiver) _ (x .worked))
 
-  pub work-sn-grows : (a b : ℕ) → x .sn a b ≤ run-work j x w m .sn a b
+  pub work-sn-grows : (a b : ℕ) → x .sn a b ≤ run-work (ports j) x w m .sn a b
   work-sn-grows a b = elim (eq? a (w .receiver)) [
-    | inl e ↦ subst⁻¹ (λ a. x .sn a b ≤ run-work j x w m .sn a b) e
+    | inl e ↦ subst⁻¹ (λ a. x .sn a b ≤ run-work (ports j) x w m .sn a b) e
         (rw (work-sn, ok .counts (w .receiver) (found-chare ok w m found)) (sn-grows j (w .receiver) (prefix-snoc m (prefix-refl (x .worked (w .receiver)))) b))
     | inr e ↦ rw (work-sn-other j x w m a e) (omega arith)
   ]

@@ -12,17 +12,19 @@ use Rattle.lists.specs.Lists.{_∈_, All}
 use Rattle.protocol.specs.declared.Entry.{Entry}
 use Rattle.protocol.specs.declared.Note.{Note}
 use Rattle.protocol.specs.declared.Status.the-variants.{Down}
-use Rattle.protocol.specs.Parts.{Job, Memory, with-table, at-home}
+use Rattle.protocol.specs.Parts.{Job, Memory, at-home}
+use Rattle.protocol.specs.Setters.{with-table}
 use Rattle.protocol.specs.Tickets.{note-entry}
 use Rattle.protocol.specs.Checkpoint.{pruned}
 use Rattle.protocol.specs.CrashFree.{Run}
 use Rattle.protocol.specs.Recovery.Laws.Marks.{In, marked-same}
 use Rattle.protocol.specs.Recovery.Invariant.World.{World, put-mem, put-copies, nothing-pending, Entered, Tick, Stable, NotedAs, Kept}
 use Rattle.protocol.specs.Recovery.Invariant.Clauses.{Chare, Image, Images, Heights, Tables, Ordered, Remembered, Noted, Log, Logs, Copy, Copies, Notes, InvP}
+use Rattle.protocol.specs.Recovery.Invariant.Ticks.{tick-place, tick-entered}
 use Rattle.protocol.specs.Recovery.Invariant.Later.{Later, wire-later, log-later, notes-later, still-backed}
 use Rattle.protocol.specs.Recovery.Laws.AtHome.{at-home-on, at-home-off, at-home-ind}
 use Rattle.protocol.specs.Recovery.Invariant.Counts.{image-now}
-use Rattle.protocol.specs.Recovery.Laws.Pruned.{entered-place, tick-entered, pruned-table, all-pruned, entered-pruned, table-pruned}
+use Rattle.protocol.specs.Recovery.Laws.Pruned.{pruned-table, all-pruned, entered-pruned, table-pruned}
 use Rattle.protocol.specs.Recovery.Invariant.Homes.{local-home}
 
 -- a copy reads the copies of its own machine
@@ -37,8 +39,8 @@ copy-same {j} {x} {stable} {mem} {c} copy copy′ same k =
       kept = λ y i. k .kept y (subst (λ m. y ∈ m .log) (sym e) i);
       local = λ y i l. subst (λ m. m .height < y .tn → Entered (m .table) c (y .message .sn) (y .tn)) (same _ (sym (local-home j c _ l))) (k .local y (subst (λ m. y ∈ m .log) (sym e) i) l);
       table = λ y i.
-          let (a, b, t) = k .table y (subst (λ m. y ∈ m .table) (sym e) i) in
-          (subst (λ m. m .height < y .tn) e a, b, t);
+          let (a, t) = k .table y (subst (λ m. y ∈ m .table) (sym e) i) in
+          (subst (λ m. m .height < y .tn) e a, t);
     }
 
 module _ {w : World} (inv : InvP nothing-pending w) (q : ℕ) (not-desk : q ≢ 0) where
@@ -109,6 +111,9 @@ module _ {w : World} (inv : InvP nothing-pending w) (q : ℕ) (not-desk : q ≢ 
       (λ c e. inv .heights .above-stable c (here-chare c e))
       (λ c _. omega arith)
 
+  was-above : (c : ℕ) {t : ℕ} → stable′ c < t → w .stable c < t
+  was-above c o = let g = grows c in omega arith
+
   low-later : (r s n : ℕ) → Stable (w .run) (w .stable) r s n → Stable (w .run) stable′ r s n
   low-later r s n p = let a = p .low in let b = grows r in record { tn = p .tn; low = omega arith; worked = p .worked }
 
@@ -120,7 +125,7 @@ module _ {w : World} (inv : InvP nothing-pending w) (q : ℕ) (not-desk : q ≢ 
       | inl a ↦ inr (subst (λ l. Entered l s n t) (sym (table-on r e)) (entered-pruned (w .mem r .height) p a))
       | inr a ↦
           let reached = image-now (inv .images) r (here-chare r e) .reached in
-          inl (entered-place (inv .tables r (here-chare r e)) (omega arith) p)
+          inl (tick-place (inv .tables r (here-chare r e)) (omega arith) (inr p))
     ]
     | inr d ↦ inr (subst (λ l. Entered l s n t) (sym (table-off r d)) p)
   ]
@@ -142,9 +147,9 @@ module _ {w : World} (inv : InvP nothing-pending w) (q : ℕ) (not-desk : q ≢ 
     up = λ p h. h;
     counts = λ s r. omega arith;
     backed = λ s r n _ _. still-backed w (after mem′) (λ p e. e) (λ s r n t. inl t) low-later s r n;
-    acked = λ s r n _ _ _ old u e i a b. elim (eq? (home r) q) [
+    acked = λ s r n _ _ _ old u e i o a b. elim (eq? (home r) q) [
       | inl h ↦ kept-on r h e i a b
-      | inr d ↦ kept-off r s n (e .tn) d (old (held-off r d u) e (subst (e ∈_) (table-off r d) i) a b)
+      | inr d ↦ kept-off r s n (e .tn) d (old (held-off r d u) e (subst (e ∈_) (table-off r d) i) (was-above r o) a b)
     ];
   }
 
@@ -187,17 +192,17 @@ module _ {w : World} (inv : InvP nothing-pending w) (q : ℕ) (not-desk : q ≢ 
     worked = inv .ordered .worked;
   }
 
-  remembered : Remembered (w .job) (w .run) (w .status) mem′
+  remembered : Remembered (w .job) (w .run) stable′ (w .status) mem′
   unfolding note-entry
-  remembered c chare = all-table c _ (inv .remembered c chare) (inv .remembered c chare)
+  remembered c chare = all-table c _ (λ e i o. inv .remembered c chare e i (was-above c o)) (λ e i o. inv .remembered c chare e i (was-above c o))
 
-  noted : Noted (w .job) (w .run) mem′ held′ copy′ notes′
+  noted : Noted (w .job) (w .run) stable′ mem′ held′ copy′ notes′
   unfolding note-entry
   noted = record {
     unnoted = λ c chare. all-table c _ (inv .noted .unnoted c chare) (λ e i u. true-not-false refl u);
-    noted = λ c chare u e i l k. elim (eq? (home c) q) [
+    noted = λ c chare u e i o l k. elim (eq? (home c) q) [
       | inl h ↦ kept-on c h e i refl refl
-      | inr d ↦ kept-off c (e .sender) (e .sn) (e .tn) d (inv .noted .noted c chare (held-off c d u) e (subst (e ∈_) (table-off c d) i) l k)
+      | inr d ↦ kept-off c (e .sender) (e .sn) (e .tn) d (inv .noted .noted c chare (held-off c d u) e (subst (e ∈_) (table-off c d) i) (was-above c o) l k)
     ];
   }
 
@@ -228,8 +233,8 @@ module _ {w : World} (inv : InvP nothing-pending w) (q : ℕ) (not-desk : q ≢ 
             let p = tick-entered (inv .tables r (here-chare r h′)) (omega arith) t in
             subst (λ l. Entered l c (y .message .sn) (y .tn)) (sym (table-on r h′)) (entered-pruned (w .mem r .height) p k);
         table = λ e i.
-            let (a, b) = all-pruned (λ e. (w .mem c .height < e .tn) × (e .noted ≡ true)) (w .mem c .height) (w .mem c .table) (λ f _ k. (k, refl)) e (subst (e ∈_) (table-on c h) i) in
-            (a, b, inr (record { entry = e; member = i; of-sender = refl; of-sn = refl; of-tn = refl }));
+            let a = all-pruned (λ e. w .mem c .height < e .tn) (w .mem c .height) (w .mem c .table) (λ f _ k. k) e (subst (e ∈_) (table-on c h) i) in
+            (a, inr (record { entry = e; member = i; of-sender = refl; of-sn = refl; of-tn = refl }));
       }
 
   -- a chare of another machine: its copy stays
@@ -243,7 +248,7 @@ module _ {w : World} (inv : InvP nothing-pending w) (q : ℕ) (not-desk : q ≢ 
       | inr (a, p) ↦ let b = grows (y .message .receiver) in inr (omega arith, p)
     ];
     local = k .local;
-    table = λ e i. let (a, b, t) = k .table e i in (a, b, tick-later c (e .sender) (e .sn) (e .tn) t);
+    table = λ e i. let (a, t) = k .table e i in (a, tick-later c (e .sender) (e .sn) (e .tn) t);
   }
 
   copies : Copies (w .job) (w .run) stable′ mem′ held′ copy′

@@ -9,13 +9,14 @@ use Rattle.lists.specs.Tests.{true-not-false}
 use Rattle.lists.specs.Lists.{_∈_, All}
 use Rattle.protocol.specs.declared.Entry.{Entry}
 use Rattle.protocol.specs.declared.Status.the-variants.{Up}
-use Rattle.protocol.specs.Parts.{Memory, State, with-table}
+use Rattle.protocol.specs.Parts.{Memory, State}
+use Rattle.protocol.specs.Setters.{with-table}
 use Rattle.protocol.specs.Sending.{is-local}
 use Rattle.protocol.specs.Restart.{restored-table}
 use Rattle.protocol.specs.CrashFree.{Run}
 use Rattle.protocol.specs.Recovery.Laws.Marks.{In, marked-same}
-use Rattle.protocol.specs.Recovery.Invariant.World.{nothing-pending, counted, Owed, Place, LoggedAs, Kept}
-use Rattle.protocol.specs.Recovery.Invariant.Clauses.{Chare, Machines, Image, Images, Heights, Table, Tables, Ordered, Remembered, Noted, Copies}
+use Rattle.protocol.specs.Recovery.Invariant.World.{nothing-pending, counted, Owed, Place, LoggedAs}
+use Rattle.protocol.specs.Recovery.Invariant.Clauses.{Chare, Machines, Image, Images, Heights, Table, Tables, Ordered, Remembers, Remembered, Keeps, Noted, Copies}
 use Rattle.protocol.specs.Recovery.Laws.AtHome.{at-home-ind}
 use Rattle.protocol.specs.Recovery.Invariant.Counts.{counted-nothing}
 use Rattle.protocol.specs.Recovery.Steps.Checkpoint.{copy-same}
@@ -93,32 +94,30 @@ module _ {s : State} {x : Run} {stable : ℕ → ℕ} {q : ℕ} (b : Covered s x
         c chare l;
   }
 
-  pub remembered-after : Remembered (s .job) x (status-after s q) (memory-after s q)
+  pub remembered-after : Remembered (s .job) x stable (status-after s q) (memory-after s q)
   remembered-after = after
-      (λ c m. Chare (s .job) c → All (λ e. is-local (s .job) (e .sender) c ≡ false → status-after s q (s .job .home (e .sender)) ≡ Up
-      → (e .received ≡ true) ⊎ (e .tn ≤ length (x .worked c)) → LoggedAs (memory-after s q (e .sender) .log) c (e .sn) (e .tn)) (m .table))
-      (λ c h chare e i l u k. old-log c e u (all-restored b c h
-      (λ a n t. is-local (s .job) a c ≡ false → t ≤ length (x .worked c) → LoggedAs (s .live a .log) c n t)
-      (λ f j l k. b .inv .remembered c chare f j l (b .normal _) (inr k))
-      e i l (elim k [ inl y ↦ true-not-false y (not-received b c h e i) | inr y ↦ y ])))
-      (λ c d chare e i l u k. old-log c e u (b .inv .remembered c chare e i l (b .normal _) k))
+      (λ c m. Chare (s .job) c → Remembers (s .job) x stable (status-after s q) (memory-after s q) c (m .table))
+      (λ c h chare e i o l u k. old-log c e u (all-restored b c h
+      (λ a n t. stable c < t → is-local (s .job) a c ≡ false → t ≤ length (x .worked c) → LoggedAs (s .live a .log) c n t)
+      (λ f j o l k. b .inv .remembered c chare f j o l (b .normal _) (inr k))
+      e i o l (elim k [ inl y ↦ true-not-false y (not-received b c h e i) | inr y ↦ y ])))
+      (λ c d chare e i o l u k. old-log c e u (b .inv .remembered c chare e i o l (b .normal _) k))
     where
       old-log : (c : ℕ) (e : Entry) → status-after s q (s .job .home (e .sender)) ≡ Up → LoggedAs (s .live (e .sender) .log) c (e .sn) (e .tn)
           → LoggedAs (memory-after s q (e .sender) .log) c (e .sn) (e .tn)
       old-log c e u y = subst (λ m. LoggedAs (m .log) c (e .sn) (e .tn)) (sym (memory-elsewhere s q (e .sender) (up-elsewhere b _ u))) y
 
-  pub noted-after : Noted (s .job) x (memory-after s q) (held-after s q) (copy-after s q) (notes-after s q)
+  pub noted-after : Noted (s .job) x stable (memory-after s q) (held-after s q) (copy-after s q) (notes-after s q)
   noted-after = record {
     unnoted = after
         (λ c m. Chare (s .job) c → All (λ e. e .noted ≡ false → (is-local (s .job) (e .sender) c ≡ true) × (length (x .worked c) < e .tn)) (m .table))
         (λ c h _ e i y. true-not-false (all-noted b c h e i) y)
         (λ c _. b .inv .noted .unnoted c);
-    noted = λ c chare held e i l y. kept-still s q c (e .sender) (e .sn) (e .tn) held (after
-        (λ c m. Chare (s .job) c → held-after s q (s .job .home c) ≡ true
-        → All (λ e. is-local (s .job) (e .sender) c ≡ true → e .noted ≡ true → Kept (s .job) (s .copy) (s .notes) c (e .sender) (e .sn) (e .tn)) (m .table))
-        (λ c h _ _ e i l _. source-kept b h l (restored-table-mem s q c i .source))
+    noted = λ c chare held e i o l y. kept-still s q c (e .sender) (e .sn) (e .tn) held (after
+        (λ c m. Chare (s .job) c → held-after s q (s .job .home c) ≡ true → Keeps (s .job) stable (s .copy) (s .notes) c (m .table))
+        (λ c h _ _ e i _ l _. source-kept b h l (restored-table-mem s q c i .source))
         (λ c _ chare held. b .inv .noted .noted c chare (still-held s q _ held))
-        c chare held e i l y);
+        c chare held e i o l y);
   }
 
   pub copies-after : Copies (s .job) x stable (memory-after s q) (held-after s q) (copy-after s q)
@@ -139,6 +138,6 @@ module _ {s : State} {x : Run} {stable : ℕ → ℕ} {q : ℕ} (b : Covered s x
             c i (g .kept y i d);
         local = g .local;
         table = λ e i.
-            let (k, z, t) = g .table e i in
-            (k, z, tick-after b (λ _ _. by-copy (record { ticket = e; member = i; of-sender = refl; of-sn = refl; of-tn = refl })) t);
+            let (k, t) = g .table e i in
+            (k, tick-after b (λ _ _. by-copy (record { ticket = e; member = i; of-sender = refl; of-sn = refl; of-tn = refl })) t);
       })

@@ -13,14 +13,15 @@ use Rattle.protocol.specs.declared.Logged.{Logged}
 use Rattle.protocol.specs.declared.Note.{Note}
 use Rattle.protocol.specs.declared.Status.{Status}
 use Rattle.protocol.specs.declared.Status.the-variants.{Up, Down}
-use Rattle.protocol.specs.Parts.{Memory, State, with-table, blank, at-home}
+use Rattle.protocol.specs.Parts.{Memory, State, blank, at-home}
+use Rattle.protocol.specs.Setters.{with-table}
 use Rattle.protocol.specs.Crash.{kept-by}
 use Rattle.protocol.specs.Restart.{restored-table}
 use Rattle.protocol.specs.CrashFree.{Run}
 use Rattle.protocol.specs.Recovery.Invariant.World.{Place, Entered, Tick, Kept}
 use Rattle.protocol.specs.Recovery.Invariant.Clauses.{Chare, Log, Logs, Notes}
 use Rattle.protocol.specs.Recovery.Laws.AtHome.{at-home-on, at-home-off}
-use Rattle.protocol.specs.Recovery.Invariant.Ticks.{tick-low}
+use Rattle.protocol.specs.Recovery.Invariant.Ticks.{tick-place, stable-reached}
 use Rattle.protocol.specs.Recovery.Invariant.Counts.{chare-not-desk}
 use Rattle.protocol.specs.Recovery.Laws.Restored.{Source, by-copy, by-note}
 use Rattle.protocol.specs.Recovery.Steps.CrashTables.{Covered, here-chare, here-held, here-height, source-entered, logged-source}
@@ -101,7 +102,10 @@ module _ {s : State} {x : Run} {stable : ℕ → ℕ} {q : ℕ} (b : Covered s x
   tick-after {r} {a} {n} {t} source y = elim (eq? (s .job .home r) q) [
     | inl h ↦ elim (lt? (stable r) t) [
       | inl k ↦ inr (subst (λ m. Entered (m .table) a n t) (sym (memory-here s q r h)) (source-entered b h (source h k)))
-      | inr k ↦ inl (tick-low (b .ok .distinct r) (b .inv .tables r (here-chare b r h)) k y)
+      | inr k ↦
+          let chare = here-chare b r h in
+          let u = stable-reached (b .inv) r chare in
+          inl (tick-place (b .inv .tables r chare) (omega arith) y)
     ]
     | inr d ↦ tick-elsewhere d y
   ]

@@ -22,8 +22,7 @@ use Rattle.protocol.specs.Recovery.Laws.Marks.{In, Reach}
 use Rattle.protocol.specs.Recovery.Invariant.World.{nothing-pending, Place, Entered, Tick, SentKey, LoggedAs, Kept}
 use Rattle.protocol.specs.Recovery.Invariant.Clauses.{Chare, Table, InvP}
 use Rattle.protocol.specs.Recovery.Invariant.Linked.{world}
-use Rattle.protocol.specs.Recovery.Invariant.Ticks.{entered-entry}
-use Rattle.protocol.specs.Recovery.Laws.Pruned.{tick-entered}
+use Rattle.protocol.specs.Recovery.Invariant.Ticks.{tick-entered, entered-entry}
 use Rattle.protocol.specs.Recovery.Laws.Restored.{Source, by-copy, by-log, by-note, restored-table-mem, restored-the, nodup-restored-table}
 use Rattle.protocol.specs.Recovery.Invariant.Homes.{remote-home, not-on, elsewhere, machine-not-desk, sender-known, local-home}
 use Rattle.protocol.specs.Recovery.Invariant.Silent.{Silent, logs-sender}
@@ -62,7 +61,7 @@ module _ {s : State} {x : Run} {stable : ℕ → ℕ} {q : ℕ} (b : Covered s x
   -- ---- what a source knows is a ticket above the stable height, and was entered
   source-tick : {c a n t : ℕ} → s .job .home c ≡ q → Source s q c a n t → Tick x (s .live) c a n t × (stable c < t)
   source-tick {c} h (by-copy r) =
-      let (k, _, y) = b .inv .copies c (here-chare c h) (here-held c h) .table (r .ticket) (r .member) in
+      let (k, y) = b .inv .copies c (here-chare c h) (here-held c h) .table (r .ticket) (r .member) in
       let e = here-height c h in
       let f = r .of-tn in
       (subst₃ (Tick x (s .live) c) (r .of-sender) (r .of-sn) (r .of-tn) y, omega arith)
@@ -102,7 +101,7 @@ module _ {s : State} {x : Run} {stable : ℕ → ℕ} {q : ℕ} (b : Covered s x
         of-tn = refl;
       }
 
-  -- ---- what is safe with the buddy, and every entry that the run has worked, has a source
+  -- ---- what is safe with the buddy, and every entry above the stable height that the run has worked, has a source
   kept-source : {c a n t : ℕ} → s .job .home c ≡ q → stable c < t → Kept (s .job) (s .copy) (s .notes) c a n t → Source s q c a n t
   kept-source {c} h k (inl r) =
       let e = here-height c h in
@@ -156,15 +155,14 @@ module _ {s : State} {x : Run} {stable : ℕ → ℕ} {q : ℕ} (b : Covered s x
     | inr d ↦ remote-home (s .job) a c d l (e ∙ sym h)
   ]
 
-  worked-source : {c : ℕ} → s .job .home c ≡ q → (e : Entry) → e ∈ s .live c .table → e .tn ≤ length (x .worked c) → Source s q c (e .sender) (e .sn) (e .tn)
-  worked-source {c} h e i k =
+  worked-source : {c : ℕ} → s .job .home c ≡ q → (e : Entry) → e ∈ s .live c .table → stable c < e .tn → e .tn ≤ length (x .worked c) → Source s q c (e .sender) (e .sn) (e .tn)
+  worked-source {c} h e i above k =
       let chare = here-chare c h in
-      let above = b .inv .tables c chare .above e i in
       either (is-local (s .job) (e .sender) c)
       (λ l. either (e .noted)
-      (λ z. kept-source h above (b .inv .noted .noted c chare (here-held c h) e i l z))
+      (λ z. kept-source h above (b .inv .noted .noted c chare (here-held c h) e i above l z))
       (λ z. let (_, d) = b .inv .noted .unnoted c chare e i z in absurd (omega arith)))
-      (λ l. logged-source h (remote-elsewhere h l) above (b .inv .remembered c chare e i l (b .normal _) (inr k)))
+      (λ l. logged-source h (remote-elsewhere h l) above (b .inv .remembered c chare e i above l (b .normal _) (inr k)))
 
   -- ---- the restored table of chare c
   module _ (c : ℕ) (h : s .job .home c ≡ q) where
@@ -189,9 +187,9 @@ module _ {s : State} {x : Run} {stable : ℕ → ℕ} {q : ℕ} (b : Covered s x
         record {
           complete = λ t k l.
               let (e, i, p) = table .complete t k l in
-              let y = source-entered h (worked-source h e i (omega arith)) in
+              let y = source-entered h (worked-source h e i (omega arith) (omega arith)) in
               (y .entry, y .member, y .of-tn ∙ p);
-          above = all-restored (λ _ _ t. stable c < t) (table .above);
+          positive = all-restored (λ _ _ t. 1 ≤ t) (table .positive);
           tns = nodup-finer entry-key (λ (e : Entry). e .tn) _ (nodup-restored-table s q c) (λ e f i k z.
               let o = restored-old i in
               let p = restored-old k in

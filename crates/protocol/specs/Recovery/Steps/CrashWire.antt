@@ -81,8 +81,8 @@ module _ {s : State} {x : Run} {stable : ℕ → ℕ} {q : ℕ} (b : Covered s x
       let d : s .job .home r ≢ q = goes-elsewhere (s .job) q _ left in (
         f .0,
         still-sent (λ h. d (sym (local-home (s .job) a r (f .0)) ∙ h)) (f .1),
-        λ held e i p o.
-            kept-still s q r a n (e .tn) held (f .2 (still-held s q _ held) e (subst (λ m. e ∈ m .table) (memory-elsewhere s q r d) i) p o),
+        λ held e i o p z.
+            kept-still s q r a n (e .tn) held (f .2 (still-held s q _ held) e (subst (λ m. e ∈ m .table) (memory-elsewhere s q r d) i) o p z),
       )
 
   pub wire-after : All (PacketOk (world-after s x stable q)) (keep (survives (s .job) q) (s .wire))

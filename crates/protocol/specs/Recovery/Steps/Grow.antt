@@ -51,11 +51,11 @@ module _ {p q : Pending} {w : World} {y : Run} {new : ℕ → Memory} (inv : Inv
   tick : (r s n t : ℕ) → Tick (w .run) (w .mem) r s n t → Tick y (w .mem) r s n t
   tick r s n t k = tick-run (w .run) y (w .mem) r (h .grown .worked) k
 
-  remembered : Remembered (w .job) y (w .status) (gone-on (w .mem) new)
-  remembered c k e i a b (inl r) = inv .remembered c k e i a b (inl r)
-  remembered c k e i a b (inr u) = elim (h .placed c k e i u) [ inl v ↦ inv .remembered c k e i a b (inr v) | inr v ↦ inv .remembered c k e i a b (inl (v .0)) ]
+  remembered : Remembered (w .job) y (w .stable) (w .status) (gone-on (w .mem) new)
+  remembered c k e i o a b (inl r) = inv .remembered c k e i o a b (inl r)
+  remembered c k e i o a b (inr u) = elim (h .placed c k e i u) [ inl v ↦ inv .remembered c k e i o a b (inr v) | inr v ↦ inv .remembered c k e i o a b (inl (v .0)) ]
 
-  noted : Noted (w .job) y (gone-on (w .mem) new) (w .held) (w .copy) (w .notes)
+  noted : Noted (w .job) y (w .stable) (gone-on (w .mem) new) (w .held) (w .copy) (w .notes)
   noted = record {
     unnoted = λ c k e i u.
         let (a, b) = inv .noted .unnoted c k e i u in (
@@ -78,7 +78,7 @@ module _ {p q : Pending} {w : World} {y : Run} {new : ℕ → Memory} (inv : Inv
         ordered = λ s n a b. m .ordered s n a (rw e at b);
         kept = λ z i d. elim (m .kept z i d) [ inl v ↦ inl v | inr v ↦ inr (v .0, place-mono (h .grown .worked _) (v .1)) ];
         local = m .local;
-        table = λ f i. let (a, b, t) = m .table f i in (a, b, tick c (f .sender) (f .sn) (f .tn) t);
+        table = λ f i. let (a, t) = m .table f i in (a, tick c (f .sender) (f .sn) (f .tn) t);
       }
 
   notes : Notes (w .job) y (gone-on (w .mem) new) (w .notes)

@@ -6,6 +6,7 @@ use mathlib.Core.Option.{some}
 use Prim.Native.Nat.{_+_}
 use Rattle.lists.specs.Map.{upd}
 use Rattle.lists.specs.Lists.{all-nil, all-cons, prefix-refl}
+use Rattle.protocol.specs.Work.{ports}
 use Rattle.protocol.specs.declared.Message.{Message}
 use Rattle.protocol.specs.CrashFree.{Injection, Work, Run, run-send, crash-free}
 use Rattle.protocol.specs.Recovery.Run.Facts.{Sent}
@@ -22,7 +23,7 @@ use Rattle.protocol.specs.Recovery.Steps.Grow.{GoneOn, run-grows}
 abbrev pub injected : Injection → Pending
 injected i = record { sender = 0; receivers = i .chare ∷ []; value = i .value; hops = i .hops }
 
-module _ {w : World} (is : List Injection) (ws : List Work) (for-chares : ForChares is) (is-run : crash-free (w .job) is ws ≡ some (w .run)) (inv : InvP nothing-pending w) (i : Injection) (chare : Chare (w .job) (i .chare)) where
+module _ {w : World} (is : List Injection) (ws : List Work) (for-chares : ForChares is) (is-run : crash-free (ports (w .job)) is ws ≡ some (w .run)) (inv : InvP nothing-pending w) (i : Injection) (chare : Chare (w .job) (i .chare)) where
   abbrev after : Run
   after = run-send (w .run) 0 (i .chare) (i .value) (i .hops)
 

@@ -15,7 +15,8 @@ use Rattle.lists.specs.Lists.{_∈_, All, all-snoc, keep, keep-mem, mem-keep, f
 use Rattle.lists.specs.Keys.{NoDup, uniq, nodup-snoc, nodup-keep}
 use Rattle.protocol.specs.declared.Message.{Message}
 use Rattle.protocol.specs.declared.Logged.{Logged}
-use Rattle.protocol.specs.Parts.{Memory, with-log, with-sn}
+use Rattle.protocol.specs.Parts.{Memory}
+use Rattle.protocol.specs.Setters.{with-log, with-sn}
 use Rattle.protocol.specs.Sending.{is-local}
 use Rattle.protocol.specs.Packets.{for-receiver, set-tn, ticketed}
 use Rattle.protocol.specs.CrashFree.{Run}
@@ -24,8 +25,7 @@ use Rattle.protocol.specs.Recovery.Laws.Changes.{Key, no-key}
 use Rattle.protocol.specs.Recovery.Laws.Lookups.{tests-logged, ticketed-old, mem-ticketed, ticketed-other, nodup-ticketed, mem-removed, nodup-removed, logged-key}
 use Rattle.protocol.specs.Recovery.Invariant.World.{World, put-mem, Pending, count-all, counted, Owed, Tick, Stable, InLog}
 use Rattle.protocol.specs.Recovery.Invariant.Clauses.{Chare, Sender, Log, InvP}
-use Rattle.protocol.specs.Recovery.Laws.Places.{place-once}
-use Rattle.protocol.specs.Recovery.Invariant.Ticks.{tick-low, stable-no-entry}
+use Rattle.protocol.specs.Recovery.Invariant.Ticks.{tick-once, tick-place, stable-reached}
 use Rattle.protocol.specs.Recovery.Invariant.Senders.{inv-senders}
 use Rattle.protocol.specs.Recovery.Steps.Relog.{relog, Past, Stays, Relogged, relogged, NewLog, new-logs, new-log}
 
@@ -188,8 +188,7 @@ pub record Loses (w : World) (a : ℕ) (l : List Logged) : Type 0 where
 module _ {p : Pending} {w : World} (ok : RunOk (w .job) (w .run)) (inv : InvP p w) where
   -- the ticket of a stable message is worked, and the copied height is past it
   stable-past : {a r n t : ℕ} → Chare (w .job) r → Stable (w .run) (w .stable) r a n → Tick (w .run) (w .mem) r a n t → Past w a r n t
-  stable-past {r = r} k h (inl q) = (subst (_≤ w .stable r) (place-once (ok .distinct r) (h .worked) q) (h .low), q)
-  stable-past {r = r} k h (inr e) = absurd (stable-no-entry (ok .distinct r) (inv .tables r k) h (e .entry) (e .member) (e .of-sender) (e .of-sn))
+  stable-past {r = r} k h y = subst (λ t. Past w _ r _ t) (tick-once (ok .distinct r) (inv .tables r k) (h .worked) y) (h .low, h .worked)
 
   module _ (a : ℕ) (l : List Logged) (k : Sender (w .job) a) (h : Loses w a l) where
     shorter-log : Log (w .job) (w .run) (w .stable) (w .mem) a l (w .mem a .sn)
@@ -247,6 +246,7 @@ module _ {p : Pending} {w : World} (ok : RunOk (w .job) (w .run)) (inv : InvP p 
         let (u, v) = low a k y i e in
         let g = inv .logs a k in
         let r = y .message .receiver in
-        let t = tick-low (ok .distinct r) (inv .tables r (inv .domain .receiver _ (g .sent y i))) v (g .tick y i u) in
-        inr (record { tn = y .tn; low = v; worked = t }));
+        let chare = inv .domain .receiver _ (g .sent y i) in
+        let reached = stable-reached inv r chare in
+        inr (record { tn = y .tn; low = v; worked = tick-place (inv .tables r chare) (omega arith) (g .tick y i u) }));
   }))

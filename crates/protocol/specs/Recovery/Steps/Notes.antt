@@ -38,8 +38,8 @@ module _ {p : Pending} {w : World} (inv : InvP p w) (m : ℕ) (y : Note) (good :
   kept : (r s n t : ℕ) → Kept (w .job) (w .copy) (w .notes) r s n t → Kept (w .job) (w .copy) longer r s n t
   kept = kept-more (w .job) (w .copy) (w .notes) m y
 
-  noted : Noted (w .job) (w .run) (w .mem) (w .held) (w .copy) longer
-  noted = record { unnoted = inv .noted .unnoted; noted = λ c k u e i a b. kept c (e .sender) (e .sn) (e .tn) (inv .noted .noted c k u e i a b) }
+  noted : Noted (w .job) (w .run) (w .stable) (w .mem) (w .held) (w .copy) longer
+  noted = record { unnoted = inv .noted .unnoted; noted = λ c k u e i o a b. kept c (e .sender) (e .sn) (e .tn) (inv .noted .noted c k u e i o a b) }
 
   notes : Notes (w .job) (w .run) (w .mem) longer
   notes = upd-ind (λ q l. All (NoteOk (w .job) (w .run) (w .mem) q) l) m (w .notes m ++ (y ∷ [])) (w .notes) (all-snoc (w .notes m) (inv .notes m) good) (λ q d. inv .notes q)
@@ -53,7 +53,7 @@ module _ {p : Pending} {w : World} (inv : InvP p w) (m : ℕ) (y : Note) (good :
     up = λ p k. k;
     counts = λ s r. le-refl _;
     backed = λ s r n k d b. b;
-    acked = λ s r n k d b a u e i g h. kept r s n (e .tn) (a u e i g h);
+    acked = λ s r n k d b a u e i o g h. kept r s n (e .tn) (a u e i o g h);
   }
 
   pub note-add : InvP p (put-notes w (upd m (w .notes m ++ (y ∷ [])) (w .notes)))

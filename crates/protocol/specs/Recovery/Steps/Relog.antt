@@ -9,7 +9,8 @@ use lib.ListN.{take}
 use Rattle.lists.specs.Map.{upd, upd-ind, upd-ind₂}
 use Rattle.lists.specs.Lists.{All}
 use Rattle.protocol.specs.declared.Logged.{Logged}
-use Rattle.protocol.specs.Parts.{Memory, with-log, with-sn}
+use Rattle.protocol.specs.Parts.{Memory}
+use Rattle.protocol.specs.Setters.{with-log, with-sn}
 use Rattle.protocol.specs.Recovery.Laws.Marks.{Marked, side, sides}
 use Rattle.protocol.specs.Recovery.Invariant.World.{World, put-mem, Pending, counted, Owed, Place, LoggedAs}
 use Rattle.protocol.specs.Recovery.Invariant.Clauses.{Chare, Sender, Image, Images, Heights, Ordered, Remembered, Noted, Log, Copies, InvP}
@@ -70,14 +71,12 @@ module _ {p q : Pending} {w : World} (f : ℕ → ℕ → ℕ) (l : ℕ → List
     worked = λ c s n k a b. let u = inv .ordered .worked c s n k a b in let v = h .grown s c in omega arith;
   }
 
-  noted : Noted (w .job) (w .run) (relog (w .mem) f l) (w .held) (w .copy) (w .notes)
+  noted : Noted (w .job) (w .run) (w .stable) (relog (w .mem) f l) (w .held) (w .copy) (w .notes)
   noted = record { unnoted = inv .noted .unnoted; noted = inv .noted .noted }
 
-  remembered : Remembered (w .job) (w .run) (w .status) (relog (w .mem) f l)
-  remembered c k e i a b d =
-      let t = inv .tables c k in
-      let u = t .above e i in
-      elim (h .stays (e .sender) (key-sender (inv .domain) (t .sent e i)) c (e .sn) (e .tn) (λ z. omega arith) (inv .remembered c k e i a b d)) [
+  remembered : Remembered (w .job) (w .run) (w .stable) (w .status) (relog (w .mem) f l)
+  remembered c k e i o a b d =
+      elim (h .stays (e .sender) (key-sender (inv .domain) (inv .tables c k .sent e i)) c (e .sn) (e .tn) (λ z. omega arith) (inv .remembered c k e i o a b d)) [
         | inl g ↦ g
         | inr g ↦ let v = g .0 in absurd (omega arith)
       ]

@@ -12,11 +12,12 @@ use Rattle.lists.specs.Keys.{NoDup, nodup-change1}
 use Rattle.protocol.specs.declared.Logged.{Logged}
 use Rattle.protocol.specs.declared.Entry.{Entry}
 use Rattle.protocol.specs.declared.Status.the-variants.{Down}
-use Rattle.protocol.specs.Parts.{Job, Memory, State, with-table, with-top, on, at-home}
+use Rattle.protocol.specs.Parts.{Job, Memory, State, on, at-home}
+use Rattle.protocol.specs.Setters.{with-table, with-top}
 use Rattle.protocol.specs.Tickets.{for-message, fill, filled}
 use Rattle.protocol.specs.Restart.{restored-table, fill-all, filled-table, restored}
 use Rattle.protocol.specs.CrashFree.{Run}
-use Rattle.protocol.specs.Demand3.{message-of}
+use Rattle.protocol.specs.History.{message-of}
 use Rattle.protocol.specs.Recovery.Run.Facts.{Sent}
 use Rattle.protocol.specs.Recovery.Invariant.World.{Pending, put-mem}
 use Rattle.protocol.specs.Recovery.Invariant.Clauses.{Chare, InvP}
@@ -88,7 +89,7 @@ module _ {p : Pending} {s : State} {x : Run} {stable : ℕ → ℕ} {mem : ℕ �
       record {
         sent = subst (Sent x) (filled-message c e f (y .of-receiver)) (log .sent (f .logged) (y .member));
         local = λ _. omega arith;
-        remote = λ l. true-not-false
+        remote = λ _ l. true-not-false
             (home-local (s .job) (e .sender) c (λ z. chare-not-desk (inv .job) a chare (sym from ∙ z)) (ap (s .job .home) from ∙ o ∙ sym h)) l;
       }
 

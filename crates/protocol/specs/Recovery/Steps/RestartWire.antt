@@ -95,7 +95,7 @@ module _ {p : Pending} {w : World} (inv : InvP p w) (q : ℕ) (down : w .status 
     };
     tables = inv .tables;
     ordered = inv .ordered;
-    remembered = λ c chare e i l u. inv .remembered c chare e i l (was-up _ u);
+    remembered = λ c chare e i o l u. inv .remembered c chare e i o l (was-up _ u);
     noted = inv .noted;
     logs = inv .logs;
     copies = inv .copies;

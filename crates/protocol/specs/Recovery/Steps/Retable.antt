@@ -1,7 +1,7 @@
 -- The table of one chare is replaced: what the new one must be for the invariant to stand.
 use mathlib.Core.Path.{_≡_, refl, sym, ap, _∙_, subst}
 use mathlib.Core.Bool.{true, false}
-use mathlib.Core.Logic.{_⊎_, inl, inr}
+use mathlib.Core.Logic.{inl, inr}
 use mathlib.Core.List.{List}
 use Prim.Native.Nat.{ℕ, _≤_, _<_, max}
 use native.Mathlib.Nat.{le-of-eq}
@@ -9,13 +9,13 @@ use lib.ListN.{length, take}
 use Rattle.lists.specs.Map.{upd, upd-ind}
 use Rattle.lists.specs.Lists.{All}
 use Rattle.protocol.specs.declared.Entry.{Entry}
-use Rattle.protocol.specs.declared.Status.the-variants.{Up}
-use Rattle.protocol.specs.Parts.{Job, Memory, with-table}
+use Rattle.protocol.specs.Parts.{Job, Memory}
+use Rattle.protocol.specs.Setters.{with-table}
 use Rattle.protocol.specs.Sending.{is-local}
 use Rattle.protocol.specs.CrashFree.{Run}
 use Rattle.protocol.specs.Recovery.Laws.Marks.{In, marked-same}
-use Rattle.protocol.specs.Recovery.Invariant.World.{World, Pending, put-mem, counted, Owed, Entered, SentKey, LoggedAs, Ticketed, Kept}
-use Rattle.protocol.specs.Recovery.Invariant.Clauses.{Chare, Sender, Image, Images, Heights, Table, Ordered, Noted, Log, Logs, Copies, InvP}
+use Rattle.protocol.specs.Recovery.Invariant.World.{World, Pending, put-mem, counted, Owed, Entered, SentKey, LoggedAs, Ticketed}
+use Rattle.protocol.specs.Recovery.Invariant.Clauses.{Chare, Sender, Image, Images, Heights, Table, Ordered, Remembers, Keeps, Noted, Log, Logs, Copies, Acks, InvP}
 use Rattle.protocol.specs.Recovery.Invariant.Ticks.{tick-mem}
 use Rattle.protocol.specs.Recovery.Invariant.Later.{Later, Acked, wire-later, log-later, notes-later}
 
@@ -26,14 +26,12 @@ put-table w r l = put-mem w (upd r (with-table (w .mem r) l) (w .mem))
 pub record Retabled (w : World) (r : ℕ) (l : List Entry) : Type 0 where
   pub table : Table (w .run) r (w .stable r) l
   pub received : All (λ e. is-local (w .job) (e .sender) r ≡ true → e .received ≡ true → e .sn ≤ w .mem (e .sender) .sn r) l
-  pub remembered : All (λ e. is-local (w .job) (e .sender) r ≡ false → w .status (w .job .home (e .sender)) ≡ Up
-      → (e .received ≡ true) ⊎ (e .tn ≤ length (w .run .worked r)) → LoggedAs (w .mem (e .sender) .log) r (e .sn) (e .tn)) l
+  pub remembered : Remembers (w .job) (w .run) (w .stable) (w .status) (w .mem) r l
   pub unnoted : All (λ e. e .noted ≡ false → (is-local (w .job) (e .sender) r ≡ true) × (length (w .run .worked r) < e .tn)) l
-  pub noted : w .held (w .job .home r) ≡ true
-      → All (λ e. is-local (w .job) (e .sender) r ≡ true → e .noted ≡ true → Kept (w .job) (w .copy) (w .notes) r (e .sender) (e .sn) (e .tn)) l
+  pub noted : w .held (w .job .home r) ≡ true → Keeps (w .job) (w .stable) (w .copy) (w .notes) r l
   pub entered : (s n t : ℕ) → Entered (w .mem r .table) s n t → Entered l s n t
   pub acked : (s n : ℕ) → SentKey (w .run) s r n → is-local (w .job) s r ≡ true → n ≤ w .mem s .sn r → Acked w s r n
-      → w .held (w .job .home r) ≡ true → All (λ e. e .sender ≡ s → e .sn ≡ n → Kept (w .job) (w .copy) (w .notes) r s n (e .tn)) l
+      → w .held (w .job .home r) ≡ true → Acks w s r n l
 
 pub image-table : {j : Job} {x : Run} {c : ℕ} {m : Memory} {f : ℕ → ℕ} (l : List Entry) → Image j x c m f → Image j x c (with-table m l) f
 image-table {m = m} l i = record {
@@ -70,7 +68,7 @@ module _ (w : World) (r : ℕ) (l : List Entry) (h : Retabled w r l) where
     backed = λ s c n k e b u. elim (b u) [ inl i ↦ inl (subst (λ l. Ticketed l c n) (same-log w r l s) i) | inr i ↦ inr i ];
     acked = λ s c n. at w r l
         (λ c m. SentKey (w .run) s c n → is-local (w .job) s c ≡ true → n ≤ w .mem s .sn c → Acked w s c n
-        → w .held (w .job .home c) ≡ true → All (λ e. e .sender ≡ s → e .sn ≡ n → Kept (w .job) (w .copy) (w .notes) c s n (e .tn)) (m .table))
+        → w .held (w .job .home c) ≡ true → Acks w s c n (m .table))
         (h .acked s n) (λ c k e b a. a) c;
   }
 
@@ -103,14 +101,13 @@ module _ {p : Pending} {w : World} (inv : InvP p w) (r : ℕ) (l : List Entry) (
         (inv .ordered .worked c s n i a (subst (λ k. In (take k (w .run .worked c)) s n) (sym (same-height w r l c)) b));
   }
 
-  noted : Noted (w .job) (w .run) (put-table w r l .mem) (w .held) (w .copy) (w .notes)
+  noted : Noted (w .job) (w .run) (w .stable) (put-table w r l .mem) (w .held) (w .copy) (w .notes)
   noted = record {
     unnoted = at w r l
         (λ c m. Chare (w .job) c → All (λ e. e .noted ≡ false → (is-local (w .job) (e .sender) c ≡ true) × (length (w .run .worked c) < e .tn)) (m .table))
         (λ _. h .unnoted) (inv .noted .unnoted);
     noted = at w r l
-        (λ c m. Chare (w .job) c → w .held (w .job .home c) ≡ true
-        → All (λ e. is-local (w .job) (e .sender) c ≡ true → e .noted ≡ true → Kept (w .job) (w .copy) (w .notes) c (e .sender) (e .sn) (e .tn)) (m .table))
+        (λ c m. Chare (w .job) c → w .held (w .job .home c) ≡ true → Keeps (w .job) (w .stable) (w .copy) (w .notes) c (m .table))
         (λ _. h .noted) (inv .noted .noted);
   }
 
@@ -131,7 +128,7 @@ module _ {p : Pending} {w : World} (inv : InvP p w) (r : ℕ) (l : List Entry) (
           | inr a ↦ inr a
         ];
         local = k .local;
-        table = λ e m. let a = k .table e m in (a .0, a .1, later-table w r l h .tick _ _ _ _ (a .2));
+        table = λ e m. let a = k .table e m in (a .0, later-table w r l h .tick _ _ _ _ (a .1));
       }
 
   pub table-new : InvP p (put-table w r l)
@@ -143,11 +140,9 @@ module _ {p : Pending} {w : World} (inv : InvP p w) (r : ℕ) (l : List Entry) (
     heights = heights;
     tables = at w r l (λ c m. Chare (w .job) c → Table (w .run) c (w .stable c) (m .table)) (λ _. h .table) (inv .tables);
     ordered = ordered;
-    remembered = λ c i e k a b d. subst (λ l. LoggedAs l c (e .sn) (e .tn)) (same-log w r l (e .sender))
-        (at w r l
-        (λ c m. Chare (w .job) c → All (λ e. is-local (w .job) (e .sender) c ≡ false → w .status (w .job .home (e .sender)) ≡ Up
-        → (e .received ≡ true) ⊎ (e .tn ≤ length (w .run .worked c)) → LoggedAs (w .mem (e .sender) .log) c (e .sn) (e .tn)) (m .table))
-        (λ _. h .remembered) (inv .remembered) c i e k a b d);
+    remembered = λ c i e k o a b d. subst (λ l. LoggedAs l c (e .sn) (e .tn)) (same-log w r l (e .sender))
+        (at w r l (λ c m. Chare (w .job) c → Remembers (w .job) (w .run) (w .stable) (w .status) (w .mem) c (m .table))
+        (λ _. h .remembered) (inv .remembered) c i e k o a b d);
     noted = noted;
     logs = logs;
     copies = copies;

@@ -7,7 +7,7 @@ use native.Mathlib.Nat.{le-refl}
 use Rattle.lists.specs.Map.{upd-same, upd-ind}
 use Rattle.lists.specs.Lists.{_∈_}
 use Rattle.protocol.specs.declared.Entry.{Entry}
-use Rattle.protocol.specs.Parts.{with-table, with-top}
+use Rattle.protocol.specs.Setters.{with-table, with-top}
 use Rattle.protocol.specs.Recovery.Laws.Marks.{marked-same}
 use Rattle.protocol.specs.Recovery.Invariant.World.{World, Pending, put-mem, Entered, LoggedAs}
 use Rattle.protocol.specs.Recovery.Invariant.Clauses.{Chare, Images, Table, Ordered, Remembered, Noted, Copies, InvP}
@@ -49,7 +49,7 @@ module _ {p : Pending} {w : World} (inv : InvP p w) (l : ℕ → List Entry) (to
     up = λ q u. u;
     counts = λ s r. le-refl _;
     backed = λ s r n k e b. b;
-    acked = λ s r n k e c. still-acked w (put-tables w l top) (λ q u. u) (λ r s n t u k. k)
+    acked = λ s r n k e c. still-acked w (put-tables w l top) (λ q u. u) (λ r. le-refl _) (λ r s n t u k. k)
         (λ r e i. let (f, j, b) = before r e i in (f, j, b .sender, b .sn, b .tn)) s r n;
   }
 
@@ -83,11 +83,11 @@ module _ {p : Pending} {w : World} (inv : InvP p w) (l : ℕ → List Entry) (to
     worked = inv .ordered .worked;
   }
 
-  remembered : Remembered (w .job) (w .run) (w .status) (put-tables w l top .mem)
-  remembered c chare e i a u d =
-      subst (λ k. LoggedAs k c (e .sn) (e .tn)) (same-log c (e .sender)) (alone c chare .remembered c chare e (inside i) a u d)
+  remembered : Remembered (w .job) (w .run) (w .stable) (w .status) (put-tables w l top .mem)
+  remembered c chare e i o a u d =
+      subst (λ k. LoggedAs k c (e .sn) (e .tn)) (same-log c (e .sender)) (alone c chare .remembered c chare e (inside i) o a u d)
 
-  noted : Noted (w .job) (w .run) (put-tables w l top .mem) (w .held) (w .copy) (w .notes)
+  noted : Noted (w .job) (w .run) (w .stable) (put-tables w l top .mem) (w .held) (w .copy) (w .notes)
   noted = record {
     unnoted = λ c chare e i. alone c chare .noted .unnoted c chare e (inside i);
     noted = λ c chare u e i. alone c chare .noted .noted c chare u e (inside i);
@@ -102,7 +102,7 @@ module _ {p : Pending} {w : World} (inv : InvP p w) (l : ℕ → List Entry) (to
         ordered = k .ordered;
         kept = k .kept;
         local = k .local;
-        table = λ e i. let (a, b, t) = k .table e i in (a, b, later .tick _ _ _ _ t);
+        table = λ e i. let (a, t) = k .table e i in (a, later .tick _ _ _ _ t);
       }
 
   pub tables-rewrite : InvP p (put-tables w l top)

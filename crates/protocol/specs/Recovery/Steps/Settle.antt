@@ -2,7 +2,7 @@
 use mathlib.Core.Path.{_≡_, refl, sym, ap, _∙_, subst, subst₃}
 use mathlib.Core.Logic.{_≢_, _⊎_, inl, inr}
 use mathlib.Core.List.{List}
-use Prim.Native.Nat.{ℕ, _≤_}
+use Prim.Native.Nat.{ℕ, _≤_, _<_}
 use native.Mathlib.Omega.{arith}
 use lib.ListN.{length}
 use Rattle.lists.specs.Tests.{eq?}
@@ -58,15 +58,15 @@ module _ {w : World} (ok : RunOk (w .job) (w .run)) (inv : InvP nothing-pending 
         | inr p ↦ inr p
       ]
 
-  settled-entry : (c : ℕ) → Chare (w .job) c → (e : Entry) → e ∈ w .mem c .table → w .job .home (e .sender) ≡ q
+  settled-entry : (c : ℕ) → Chare (w .job) c → (e : Entry) → e ∈ w .mem c .table → w .stable c < e .tn → w .job .home (e .sender) ≡ q
       → LoggedAs (w .mem (e .sender) .log) c (e .sn) (e .tn)
-  settled-entry c chare e i h =
+  settled-entry c chare e i o h =
       let table = inv .tables c chare in
       elim (ticketed (e .sender) h (table .sent e i)) [
         | inl y ↦
             let t = logged-tick (inv .logs (e .sender) (inr (settles (e .sender) h))) (y .found) (y .some-tn) in
             subst (LoggedAs (w .mem (e .sender) .log) c (e .sn)) (sym (tick-entry (ok .distinct c) table t e i refl refl)) (y .found)
-        | inr p ↦ absurd (stable-no-entry (ok .distinct c) table p e i refl refl)
+        | inr p ↦ absurd (stable-no-entry (ok .distinct c) table p e i o refl refl)
       ]
 
   -- ---- the world after
@@ -125,9 +125,9 @@ module _ {w : World} (ok : RunOk (w .job) (w .run)) (inv : InvP nothing-pending 
     };
     tables = inv .tables;
     ordered = inv .ordered;
-    remembered = λ c chare e i l u. elim (eq? (w .job .home (e .sender)) q) [
-      | inl h ↦ λ _. settled-entry c chare e i h
-      | inr d ↦ inv .remembered c chare e i l (old (w .job .home (e .sender)) d ∙ u)
+    remembered = λ c chare e i o l u. elim (eq? (w .job .home (e .sender)) q) [
+      | inl h ↦ λ _. settled-entry c chare e i o h
+      | inr d ↦ inv .remembered c chare e i o l (old (w .job .home (e .sender)) d ∙ u)
     ];
     noted = inv .noted;
     logs = inv .logs;

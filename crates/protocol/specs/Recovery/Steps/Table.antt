@@ -14,7 +14,7 @@ use Rattle.protocol.specs.declared.Entry.{Entry}
 use Rattle.protocol.specs.declared.Status.the-variants.{Up}
 use Rattle.protocol.specs.Tickets.{for-message, entry, fill, filled, note-entry}
 use Rattle.protocol.specs.Sending.{is-local}
-use Rattle.protocol.specs.Demand3.{message-of}
+use Rattle.protocol.specs.History.{message-of}
 use Rattle.protocol.specs.Recovery.Run.Facts.{Sent}
 use Rattle.protocol.specs.Recovery.Laws.Changes.{Key, kept, changed, change-mem, mem-change1-either}
 use Rattle.protocol.specs.Recovery.Laws.Marks.{In, Reach, reach-mono, admitted-reach}
@@ -72,7 +72,7 @@ module _ {p : Pending} {w : World} (inv : InvP p w) (r : ℕ) (chare : Chare (w 
   table-more : Table (w .run) r (w .stable r) (w .mem r .table ++ (e ∷ []))
   table-more = record {
     complete = λ t a b. let (f, i, q) = table-old .complete t a b in (f, Memᴰ·append-left (e ∷ []) i, q);
-    above = all-snoc (w .mem r .table) (table-old .above) (let a = inv .heights .above-stable r chare in let b = new .above in omega arith);
+    positive = all-snoc (w .mem r .table) (table-old .positive) (let a = new .above in omega arith);
     tns = nodup-snoc _ (w .mem r .table) e (table-old .tns) (new .free);
     keys = nodup-snoc entry-key (w .mem r .table) e (table-old .keys) (new .unknown);
     sent = all-snoc (w .mem r .table) (table-old .sent) (new .sent);
@@ -90,9 +90,9 @@ module _ {p : Pending} {w : World} (inv : InvP p w) (r : ℕ) (chare : Chare (w 
     table = table-more;
     received = all-snoc (w .mem r .table) (inv .ordered .received r chare) (λ _ a. true-not-false a (new .unreceived));
     remembered = all-snoc (w .mem r .table) (inv .remembered r chare)
-        (λ _ _ a. elim a [ inl b ↦ true-not-false b (new .unreceived) | inr b ↦ let c = new-above in absurd (omega arith) ]);
+        (λ _ _ _ a. elim a [ inl b ↦ true-not-false b (new .unreceived) | inr b ↦ let c = new-above in absurd (omega arith) ]);
     unnoted = all-snoc (w .mem r .table) (inv .noted .unnoted r chare) (λ a. (new .local a, new-above));
-    noted = λ u. all-snoc (w .mem r .table) (inv .noted .noted r chare u) (λ a b. true-not-false b (new .unnoted a));
+    noted = λ u. all-snoc (w .mem r .table) (inv .noted .noted r chare u) (λ _ a b. true-not-false b (new .unnoted a));
     entered = λ s n t i. record {
       entry = i .entry;
       member = Memᴰ·append-left (e ∷ []) (i .member);
@@ -101,18 +101,18 @@ module _ {p : Pending} {w : World} (inv : InvP p w) (r : ℕ) (chare : Chare (w 
       of-tn = i .of-tn;
     };
     acked = λ s n k a b c u. all-snoc (w .mem r .table) (c u)
-        (λ q q′.
+        (λ _ q q′.
         let d = new .next (subst (λ s. is-local (w .job) s r ≡ true) (sym q) a) in
         let b′ = subst (λ s. n ≤ w .mem s .sn r) (sym q) b in
         absurd (omega arith));
   })
 
 -- ---- entries changed, each under its name and TN
--- the message of an entry that becomes received has been sent, by a sender who knows of it and of its ticket
+-- the message of an entry that becomes received has been sent, by a sender who knows of it, and of its ticket above the stable height
 pub record Arrived (w : World) (r : ℕ) (e : Entry) : Type 0 where
   pub sent : Sent (w .run) (message-of r e)
   pub local : is-local (w .job) (e .sender) r ≡ true → e .sn ≤ w .mem (e .sender) .sn r
-  pub remote : is-local (w .job) (e .sender) r ≡ false → w .status (w .job .home (e .sender)) ≡ Up → LoggedAs (w .mem (e .sender) .log) r (e .sn) (e .tn)
+  pub remote : w .stable r < e .tn → is-local (w .job) (e .sender) r ≡ false → w .status (w .job .home (e .sender)) ≡ Up → LoggedAs (w .mem (e .sender) .log) r (e .sn) (e .tn)
 
 -- the entry f of r may become e
 pub record Becomes (w : World) (r : ℕ) (f e : Entry) : Type 0 where
@@ -120,7 +120,7 @@ pub record Becomes (w : World) (r : ℕ) (f e : Entry) : Type 0 where
   pub sn : f .sn ≡ e .sn
   pub tn : f .tn ≡ e .tn
   pub received : e .received ≡ true → ((f .received ≡ true) × (f .value ≡ e .value) × (f .hops ≡ e .hops)) ⊎ Arrived w r e
-  pub noted : (f .noted ≡ e .noted) ⊎ ((e .noted ≡ true) × (is-local (w .job) (e .sender) r ≡ true → w .held (w .job .home r) ≡ true
+  pub noted : (f .noted ≡ e .noted) ⊎ ((e .noted ≡ true) × (w .stable r < e .tn → is-local (w .job) (e .sender) r ≡ true → w .held (w .job .home r) ≡ true
       → Kept (w .job) (w .copy) (w .notes) r (e .sender) (e .sn) (e .tn)))
 
 -- the entries of the new table are those of the old one, as they may become
@@ -160,7 +160,7 @@ module _ {p : Pending} {w : World} (inv : InvP p w) (r : ℕ) (chare : Chare (w 
             let (f, i, q) = t .complete n a b in
             let e = h .new f i in
             (e .entry, e .member, e .of-tn ∙ q);
-        above = carry (λ _ _ t. w .stable r < t) (t .above);
+        positive = carry (λ _ _ t. 1 ≤ t) (t .positive);
         tns = h .tns;
         keys = h .keys;
         sent = carry (λ s n _. SentKey (w .run) s r n) (t .sent);
@@ -175,11 +175,12 @@ module _ {p : Pending} {w : World} (inv : InvP p w) (r : ℕ) (chare : Chare (w 
             ];
       }
 
-  still-logged : (f e : Entry) → f ∈ w .mem r .table → Becomes w r f e → is-local (w .job) (e .sender) r ≡ false → w .status (w .job .home (e .sender)) ≡ Up
+  still-logged : (f e : Entry) → f ∈ w .mem r .table → Becomes w r f e
+      → w .stable r < e .tn → is-local (w .job) (e .sender) r ≡ false → w .status (w .job .home (e .sender)) ≡ Up
       → (f .received ≡ true) ⊎ (f .tn ≤ length (w .run .worked r)) → LoggedAs (w .mem (e .sender) .log) r (e .sn) (e .tn)
-  still-logged f e j b a u d =
-      subst₃ (λ s n t. is-local (w .job) s r ≡ false → w .status (w .job .home s) ≡ Up → LoggedAs (w .mem s .log) r n t)
-      (b .sender) (b .sn) (b .tn) (λ a u. inv .remembered r chare f j a u d) a u
+  still-logged f e j b o a u d =
+      subst₃ (λ s n t. w .stable r < t → is-local (w .job) s r ≡ false → w .status (w .job .home s) ≡ Up → LoggedAs (w .mem s .log) r n t)
+      (b .sender) (b .sn) (b .tn) (λ o a u. inv .remembered r chare f j o a u d) o a u
 
   pub table-rewrite : InvP p (put-table w r l)
   table-rewrite = table-new inv r l (record {
@@ -190,11 +191,11 @@ module _ {p : Pending} {w : World} (inv : InvP p w) (r : ℕ) (chare : Chare (w 
           | inl c ↦ subst₂ (λ s n. is-local (w .job) s r ≡ true → n ≤ w .mem s .sn r) (b .sender) (b .sn) (λ a. inv .ordered .received r chare f j a (c .0)) a
           | inr c ↦ c .local a
         ];
-    remembered = λ e i a u d.
+    remembered = λ e i o a u d.
         let (f, j, b) = h .old e i in
         elim d [
-          | inl c ↦ elim (b .received c) [ inl g ↦ still-logged f e j b a u (inl (g .0)) | inr g ↦ g .remote a u ]
-          | inr c ↦ still-logged f e j b a u (inr (subst (_≤ length (w .run .worked r)) (sym (b .tn)) c))
+          | inl c ↦ elim (b .received c) [ inl g ↦ still-logged f e j b o a u (inl (g .0)) | inr g ↦ g .remote o a u ]
+          | inr c ↦ still-logged f e j b o a u (inr (subst (_≤ length (w .run .worked r)) (sym (b .tn)) c))
         ];
     unnoted = λ e i a.
         let (f, j, b) = h .old e i in
@@ -202,15 +203,15 @@ module _ {p : Pending} {w : World} (inv : InvP p w) (r : ℕ) (chare : Chare (w 
           | inl c ↦ subst₂ (λ s t. (is-local (w .job) s r ≡ true) × (length (w .run .worked r) < t)) (b .sender) (b .tn) (inv .noted .unnoted r chare f j (c ∙ a))
           | inr c ↦ true-not-false (c .0) a
         ];
-    noted = λ u e i a d.
+    noted = λ u e i o a d.
         let (f, j, b) = h .old e i in
         elim (b .noted) [
-          | inl c ↦ subst₃ (λ s n t. is-local (w .job) s r ≡ true → Kept (w .job) (w .copy) (w .notes) r s n t)
-              (b .sender) (b .sn) (b .tn) (λ a. inv .noted .noted r chare u f j a (c ∙ d)) a
-          | inr c ↦ c .1 a u
+          | inl c ↦ subst₃ (λ s n t. w .stable r < t → is-local (w .job) s r ≡ true → Kept (w .job) (w .copy) (w .notes) r s n t)
+              (b .sender) (b .sn) (b .tn) (λ o a. inv .noted .noted r chare u f j o a (c ∙ d)) o a
+          | inr c ↦ c .1 o a u
         ];
     entered = λ s n t. entered-new h;
-    acked = λ s n _ _ _ c u. carry (λ s′ n′ t. s′ ≡ s → n′ ≡ n → Kept (w .job) (w .copy) (w .notes) r s n t) (c u);
+    acked = λ s n _ _ _ c u. carry (λ s′ n′ t. w .stable r < t → s′ ≡ s → n′ ≡ n → Kept (w .job) (w .copy) (w .notes) r s n t) (c u);
   })
 
 -- the entry of one name changed, if there is one
@@ -238,7 +239,7 @@ pub table-fill : {p : Pending} {w : World} → InvP p w → (r : ℕ) → Chare 
     → entry (w .mem r .table) s n ≡ some e
     → Sent (w .run) (record { sender = s; receiver = r; sn = n; value = v; hops = h })
     → (is-local (w .job) s r ≡ true → n ≤ w .mem s .sn r)
-    → (is-local (w .job) s r ≡ false → w .status (w .job .home s) ≡ Up → LoggedAs (w .mem s .log) r n (e .tn))
+    → (w .stable r < e .tn → is-local (w .job) s r ≡ false → w .status (w .job .home s) ≡ Up → LoggedAs (w .mem s .log) r n (e .tn))
     → InvP p (put-table w r (filled s n v h (w .mem r .table)))
 unfolding filled fill message-of
 table-fill {w = w} inv r chare s n v h e found sent local remote =
@@ -253,7 +254,7 @@ table-fill {w = w} inv r chare s n v h e found sent local remote =
       received = λ _. inr (record {
         sent = subst₂ (λ s n. Sent (w .run) (record { sender = s; receiver = r; sn = n; value = v; hops = h })) (sym a) (sym b) sent;
         local = subst₂ (λ s n. is-local (w .job) s r ≡ true → n ≤ w .mem s .sn r) (sym a) (sym b) local;
-        remote = subst₃ (λ s n t. is-local (w .job) s r ≡ false → w .status (w .job .home s) ≡ Up → LoggedAs (w .mem s .log) r n t)
+        remote = subst₃ (λ s n t. w .stable r < t → is-local (w .job) s r ≡ false → w .status (w .job .home s) ≡ Up → LoggedAs (w .mem s .log) r n t)
             (sym a) (sym b) (ap (λ (e : Entry). e .tn) q) remote;
       });
       noted = inl refl;
@@ -274,8 +275,8 @@ table-note {w = w} inv r chare s n acked =
       received = λ c. inl (c, refl, refl);
       noted = inr (
         refl,
-        subst₂ (λ s n. is-local (w .job) s r ≡ true → w .held (w .job .home r) ≡ true → Kept (w .job) (w .copy) (w .notes) r s n (f .tn))
-            (sym a) (sym b) (λ c u. acked c u f i a b),
+        λ o. subst₂ (λ s n. is-local (w .job) s r ≡ true → w .held (w .job .home r) ≡ true → Kept (w .job) (w .copy) (w .notes) r s n (f .tn))
+            (sym a) (sym b) (λ c u. acked c u f i o a b),
       );
     })
     (λ f. (refl, refl, refl))

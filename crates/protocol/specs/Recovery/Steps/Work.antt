@@ -13,11 +13,11 @@ use Rattle.lists.specs.Lists.{_∈_, All, Prefix}
 use Rattle.protocol.specs.declared.Entry.{Entry}
 use Rattle.protocol.specs.declared.Status.the-variants.{Up, Down, CatchingUp}
 use Rattle.protocol.specs.Parts.{Memory}
-use Rattle.protocol.specs.Work.{work, receivers, sent-value}
+use Rattle.protocol.specs.Work.{work, receivers, sent-value, ports}
 use Rattle.protocol.specs.Sending.{is-local}
 use Rattle.protocol.specs.Working.{work-entry}
 use Rattle.protocol.specs.CrashFree.{Injection, Work, Run, crash-free}
-use Rattle.protocol.specs.Demand3.{message-of}
+use Rattle.protocol.specs.History.{message-of}
 use Rattle.protocol.specs.Recovery.Run.Fold.{folded-mailed}
 use Rattle.protocol.specs.Recovery.Run.Facts.{Sent, RunOk, sent-unworked}
 use Rattle.protocol.specs.Recovery.Run.Laws.{ForChares, run-ok, work-more}
@@ -34,7 +34,7 @@ use Rattle.protocol.specs.Recovery.Steps.WorkImage.{image-works, owed-wo
 
 -- what chare c owes once it has worked e
 abbrev pub worked-owes : World → ℕ → Entry → Pending
-worked-owes w c e = record { sender = c; receivers = receivers (w .job) c (e .hops); value = sent-value (work (w .mem c .state) (e .value)); hops = e .hops - 1 }
+worked-owes w c e = record { sender = c; receivers = receivers (ports (w .job)) c (e .hops); value = sent-value (work (w .mem c .state) (e .value)); hops = e .hops - 1 }
 
 abbrev pub worked-mem : World → ℕ → Entry → ℕ → Memory
 worked-mem w c e = upd c (work-entry (w .mem c) e) (w .mem)
@@ -76,7 +76,7 @@ module _ {w : World} {y : Run} (inv : InvP nothing-pending w) (c : ℕ) (e : Ent
   image-after = subst⁻¹ (Image (w .job) y c (work-entry (w .mem c) e)) (counted-sender (worked-owes w c e) (w .mem c .sn))
       (image-works image e g first (new-message table (image .reached) (n .member) (n .next) g) reach)
 
-  owed-after : Owed y c (receivers (w .job) c (e .hops)) (sent-value (work (w .mem c .state) (e .value))) (e .hops - 1) (work-entry (w .mem c) e .sn)
+  owed-after : Owed y c (receivers (ports (w .job)) c (e .hops)) (sent-value (work (w .mem c .state) (e .value))) (e .hops - 1) (work-entry (w .mem c) e .sn)
   unfolding work-entry
   owed-after = owed-works image e g (chare-not-desk (inv .job) c (n .chare))
 
@@ -87,7 +87,7 @@ module _ {w : World} {y : Run} (inv : InvP nothing-pending w) (c : ℕ) (e : Ent
         (λ a d k. image-grown (g .grown) (subst⁻¹ (Image (w .job) (w .run) a (w .mem a)) (counted-other (worked-owes w c e) a (w .mem a .sn) d) (image-now (inv .images) a k)));
     desk = subst⁻¹ (λ (m : Memory). counted (worked-owes w c e) 0 (m .sn) ≡ y .sn 0) (upd-other c _ (w .mem) 0 desk)
         (counted-other (worked-owes w c e) 0 (w .mem 0 .sn) desk ∙ sym (counted-nothing 0 (w .mem 0 .sn)) ∙ inv .images .desk ∙ sym (g .desk));
-    owed = subst⁻¹ (λ (m : Memory). Owed y c (receivers (w .job) c (e .hops)) (sent-value (work (w .mem c .state) (e .value))) (e .hops - 1) (m .sn)) (upd-same c _ (w .mem)) owed-after;
+    owed = subst⁻¹ (λ (m : Memory). Owed y c (receivers (ports (w .job)) c (e .hops)) (sent-value (work (w .mem c .state) (e .value))) (e .hops - 1) (m .sn)) (upd-same c _ (w .mem)) owed-after;
     owing = inr (n .chare);
     owed-to = inv .job .ports c (e .hops);
   }
@@ -155,18 +155,18 @@ module _ {w : World} {y : Run} (inv : InvP nothing-pending w) (c : ℕ) (e : Ent
 pub record WorkStep (is : List Injection) (w : World) (c : ℕ) (e : Entry) : Type 0 where
   pub works : List Work
   pub run : Run
-  pub is-run : crash-free (w .job) is works ≡ some run
+  pub is-run : crash-free (ports (w .job)) is works ≡ some run
   pub grows : (a : ℕ) → Prefix (w .run .worked a) (run .worked a)
   pub others : (a : ℕ) → a ≢ c → run .worked a ≡ w .run .worked a
   pub longer : take (w .mem c .height + 1) (run .worked c) ≡ take (w .mem c .height) (w .run .worked c) ++ (message-of c e ∷ [])
   pub inv : InvP (worked-owes w c e) (put-mem (put-run w run) (worked-mem w c e))
 
-module _ {w : World} (is : List Injection) (ws : List Work) (for-chares : ForChares is) (is-run : crash-free (w .job) is ws ≡ some (w .run)) (inv : InvP nothing-pending w) where
+module _ {w : World} (is : List Injection) (ws : List Work) (for-chares : ForChares is) (is-run : crash-free (ports (w .job)) is ws ≡ some (w .run)) (inv : InvP nothing-pending w) where
   ok : RunOk (w .job) (w .run)
   ok = run-ok (w .job) is ws (w .run) for-chares is-run
 
   module _ (c : ℕ) (e : Entry) (n : Next w c e) where
-    with-run : (works : List Work) (y : Run) → crash-free (w .job) is works ≡ some y → Works (w .job) (w .run) y c (w .mem c .height) (message-of c e) → WorkStep is w c e
+    with-run : (works : List Work) (y : Run) → crash-free (ports (w .job)) is works ≡ some y → Works (w .job) (w .run) y c (w .mem c .height) (message-of c e) → WorkStep is w c e
     with-run works y r g = record {
       works = works;
       run = y;

@@ -10,6 +10,7 @@ use lib.Seq.{take-append-add, take-append-seam, take-length}
 use Rattle.lists.specs.Tests.{lt?}
 use Rattle.lists.specs.Map.{upd-same, upd-other, upd-ind}
 use Rattle.lists.specs.Lists.{_∈_, Prefix, prefix-refl, prefix-snoc}
+use Rattle.protocol.specs.Work.{ports}
 use Rattle.protocol.specs.declared.Message.{Message}
 use Rattle.protocol.specs.Parts.{Job}
 use Rattle.protocol.specs.CrashFree.{Run, Work, run-work}
@@ -61,7 +62,7 @@ module _ (j : Job) {x : Run} (ok : RunOk j x) (c k : ℕ) (m : Message) where
 
   module _ (full : k ≡ length (x .worked c)) (found : x .unworked (m .sender) c (m .sn) ≡ some m) where
     abbrev after : Run
-    after = run-work j x (work-of c m) m
+    after = run-work (ports j) x (work-of c m) m
 
     worked-after : after .worked c ≡ x .worked c ++ (m ∷ [])
     worked-after = ap (λ f. f c) (work-worked j x (work-of c m) m) ∙ upd-same c _ (x .worked)

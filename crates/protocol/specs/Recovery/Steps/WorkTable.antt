@@ -12,7 +12,7 @@ use Rattle.lists.specs.Keys.{uniq}
 use Rattle.protocol.specs.declared.Entry.{Entry}
 use Rattle.protocol.specs.Parts.{Job}
 use Rattle.protocol.specs.CrashFree.{Run}
-use Rattle.protocol.specs.Demand3.{message-of}
+use Rattle.protocol.specs.History.{message-of}
 use Rattle.protocol.specs.Recovery.Laws.Marks.{In, has, false-has}
 use Rattle.protocol.specs.Recovery.Invariant.World.{Place}
 use Rattle.protocol.specs.Recovery.Invariant.Clauses.{Table}
@@ -58,7 +58,7 @@ module _ {j : Job} {x y : Run} {c k s : ℕ} {l : List Entry} {e : Entry} (table
   pub table-works : Table y c s l
   table-works = record {
     complete = λ t h u. elim (g .bound t u) [ inl v ↦ table .complete t h v | inr v ↦ (e, member, next ∙ sym v) ];
-    above = table .above;
+    positive = table .positive;
     tns = table .tns;
     keys = table .keys;
     sent = λ f i. key-grown (g .grown) (table .sent f i);
