@@ -1,7 +1,8 @@
 -- The loop that cleans the logs at the desk and on machines that are up.
 use Rattle.lists.specs.Basics.{_≡_, sym, ap, _∙_, true, false, List, ℕ, _+_, _<_, _≤_, length}
 use Rattle.lists.specs.Lists.{keep}
-use Rattle.protocol.specs.Parts.{State, blank, up, with-live}
+use Rattle.protocol.specs.Parts.{State, blank, up}
+use Rattle.protocol.specs.Setters.{with-live}
 use Rattle.words.specs.Part.{part, put}
 use Rattle.head.specs.Head.{job-of, status-of, runs}
 use Rattle.memory.specs.{Places.MEMORY, View.memory-view}

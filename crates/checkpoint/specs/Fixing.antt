@@ -1,7 +1,7 @@
 -- The loop that prunes the chares of a machine and copies them.
 use Rattle.lists.specs.Basics.{_≡_, sym, ap, _∙_, fun-ext, true, false, List, ℕ, _+_, _<_, _≤_, length}
 use Rattle.lists.specs.{Lists.keep, Map.upd-same, Tests.either}
-use Rattle.protocol.specs.{Parts.{State, Memory, blank, on, at-home, with-live, with-copies}, Checkpoint.{pruned, prune, fix-copy}}
+use Rattle.protocol.specs.{Parts.{State, Memory, blank, on, at-home}, Setters.{with-live, with-copies}, Checkpoint.{pruned, prune, fix-copy}}
 use Rattle.words.specs.Part.{part, put}
 use Rattle.head.specs.Head.{job-of}
 use Rattle.memory.specs.{Places.MEMORY, View.memory-view}

@@ -1,7 +1,7 @@
 -- The parts of a checkpoint on a whole state; put together, they are the definition's.
 use Rattle.lists.specs.Basics.{_≡_, refl, ap, _∙_, true, [], ℕ}
 use Rattle.lists.specs.{Lists.keep, Map.upd}
-use Rattle.protocol.specs.{Parts.{Memory, State, with-log, with-live, with-copies, up}, Checkpoint.{prune, fix-copy, clean-log, clean-logs, checkpoint}}
+use Rattle.protocol.specs.{Parts.{Memory, State, up}, Setters.{with-log, with-live, with-copies}, Checkpoint.{prune, fix-copy, clean-log, clean-logs, checkpoint}}
 use Rattle.logs.specs.{Log.is-kept, CleanUp.{heights-on, stays-is-kept}}
 use Rattle.store.specs.Visits.{chosen}
 

@@ -125,7 +125,7 @@ fn both_up(s: &[u64], p: u8, q: u8) -> bool
 // The questions: the first "no", or 0.
 fn judge(s: &[u64], p: u8) -> u8
     requires { ⌜ length (now s) ≡ STORE ⌝ }
-    ensures { λ r. ⌜ r ≡ first-no 2 (checkpoint-questions (view (now (s .entry))) p) ⌝ }
+    ensures { λ r. ⌜ r ≡ first-no (checkpoint-questions (view (now (s .entry))) p) ⌝ }
 {
     let b = head::buddy(s, p);
     head::first_no(

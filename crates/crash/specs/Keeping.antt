@@ -2,7 +2,7 @@
 use Rattle.lists.specs.Basics.{_≡_, refl, sym, ap, _∙_, fun-ext, Bool, true, false, cond, not, _&&_, _≢_, List, [], ℕ, _+_, _<_, _≤_, arith, eq-eqb, ne-eqb, eqb, length, set}
 use Rattle.lists.specs.Basics.{and-true, and-false}
 use Rattle.arrays.specs.ArrayMap.{map-beyond}
-use Rattle.protocol.specs.{declared.Note.Note, Parts.{State, with-copies}, Crash.{kept-by, crash}}
+use Rattle.protocol.specs.{declared.Note.Note, Parts.State, Setters.with-copies, Crash.{kept-by, crash}}
 use Rattle.words.specs.Part.{part, part-length, put}
 use Rattle.head.specs.Head.{HELD, job-of, held-of}
 use Rattle.notelist.specs.Notes.{notes}

@@ -1,7 +1,7 @@
 -- The parts of a crash, put together, are the definition's; and what the frame leaves.
-use Rattle.lists.specs.Basics.{_≡_, ap, _∙_, Bool, true, false, List, ℕ, _+_, _<_, arith, length, set}
-use Rattle.lists.specs.{Lists.keep, Questions.{first-no, asks}}
-use Rattle.protocol.specs.{declared.Answer.the-variants.{Accepted, Lost}, Parts.{State, with-lost, with-live, with-copies, with-wire}}
+use Rattle.lists.specs.Basics.{_≡_, refl, ap, _∙_, Bool, true, false, List, ℕ, _+_, _<_, arith, length, set}
+use Rattle.lists.specs.{Lists.keep, Questions.{first-no, put-all}}
+use Rattle.protocol.specs.{declared.Answer.the-variants.{Accepted, Lost}, Parts.State, Setters.{with-lost, with-live, with-copies, with-wire}}
 use Rattle.protocol.specs.{Crash.{has-cover, survives, crash}, Questions.crash-questions, Step.{Outcome, judged}}
 use Rattle.words.specs.Part.{part, put}
 use Rattle.head.specs.{Head.{HEAD, STATUS, LOST, job-of, as-status}, Kept.head-part}
@@ -30,14 +30,14 @@ unfolding crash as-status
 crash-is xs p t u v w size h is-t is-u is-v is-w = is-w ∙ rw (is-v, is-u, is-t, status-set xs size 1 p h)
 
 -- n is what the questions find, b whether it has cover
-module _ (xs : List ℕ) (p n : ℕ) (e : n ≡ first-no 2 (crash-questions (view xs) p)) (z : n ≡ 0) (b : Bool) (is-b : b ≡ has-cover (view xs) p) where
+module _ (xs : List ℕ) (p n : ℕ) (e : n ≡ first-no (crash-questions (view xs) p)) (z : n ≡ 0) (b : Bool) (is-b : b ≡ has-cover (view xs) p) where
   abbrev the-outcome : Outcome
-  the-outcome = judged (view xs) (asks 2 (crash-questions (view xs) p) (crash-tried (view xs) p (has-cover (view xs) p)))
+  the-outcome = judged (view xs) (put-all (crash-questions (view xs) p) (crash-tried (view xs) p (has-cover (view xs) p)))
 
   pub covered : b ≡ true → (ys : List ℕ) → view ys ≡ crash (view xs) p → Framed xs ys Accepted the-outcome
-  unfolding tried crash-tried
-  covered c ys q = rw (← is-b, c) (accepted xs _ n e ys (crash (view xs) p) z q)
+  unfolding tried crash-tried crash-questions
+  covered c ys q = rw (← is-b, c) (accepted xs _ n e refl ys (crash (view xs) p) z q)
 
   pub uncovered : b ≡ false → length xs ≡ STORE → Framed xs (set xs LOST 1) Lost the-outcome
-  unfolding outcome crash-tried
-  uncovered c size = answered xs _ n e (set xs LOST 1) Lost _ (λ m y. absurd (let y : _≡_ {A = ℕ} 0 1 = cc in omega arith)) z (rw (← is-b, c, lost-set xs size 1))
+  unfolding outcome crash-tried crash-questions
+  uncovered c size = answered xs _ n e refl (set xs LOST 1) Lost _ (λ m y. absurd (let y : _≡_ {A = ℕ} 0 1 = cc in omega arith)) z (rw (← is-b, c, lost-set xs size 1))

@@ -2,8 +2,8 @@
 ghost use mathlib.Core.Path.{_≡_};
 ghost use Prim.Native.Nat.{_<_};
 ghost use lib.ListN.{length};
-ghost use Rattle.lists.specs.Questions.{asks, first-no};
-ghost use Rattle.protocol.specs.Parts.{with-live, with-copies, with-wire};
+ghost use Rattle.lists.specs.Questions.{put-all, first-no};
+ghost use Rattle.protocol.specs.Setters.{with-live, with-copies, with-wire};
 ghost use Rattle.protocol.specs.Crash.{is-normal, has-cover, crash};
 ghost use Rattle.protocol.specs.Questions.{crash-questions};
 ghost use Rattle.protocol.specs.Step.{judged};
@@ -40,10 +40,13 @@ fn has_cover(s: &[u64], p: u8) -> bool
     requires { ⌜ length (now s) ≡ STORE ⌝ }
     ensures { λ r. ⌜ r ≡ has-cover (view (now (s .entry))) p ⌝ }
 {
-    for q in 1..=6 {
+    let last = head::machines(s);
+    let mut q = 1;
+    while q <= last {
         if !is_normal(s, q) {
             return false;
         }
+        q += 1;
     }
     head::is_held(s, p)
 }
@@ -127,7 +130,7 @@ fn go_down(s: &mut [u64], p: u8)
 // The questions: the first "no", or 0.
 fn judge(s: &[u64], p: u8) -> u8
     requires { ⌜ length (now s) ≡ STORE ⌝ }
-    ensures { λ r. ⌜ r ≡ first-no 2 (crash-questions (view (now (s .entry))) p) ⌝ }
+    ensures { λ r. ⌜ r ≡ first-no (crash-questions (view (now (s .entry))) p) ⌝ }
 {
     head::first_no(
         head::is_set(s),
@@ -139,7 +142,7 @@ fn judge(s: &[u64], p: u8) -> u8
 
 pub fn crash(s: &mut [u64], p: u8) -> Answer
     requires { ⌜ length (now s) ≡ STORE ⌝ }
-    ensures { λ r. ⌜ Framed (now (s .entry)) (now (s .exit)) r (judged (view (now (s .entry))) (asks 2 (crash-questions (view (now (s .entry))) p) (crash-tried (view (now (s .entry))) p (has-cover (view (now (s .entry))) p)))) ⌝ }
+    ensures { λ r. ⌜ Framed (now (s .entry)) (now (s .exit)) r (judged (view (now (s .entry))) (put-all (crash-questions (view (now (s .entry))) p) (crash-tried (view (now (s .entry))) p (has-cover (view (now (s .entry))) p)))) ⌝ }
 {
     let no = judge(s, p);
     if no != 0 {

@@ -1,13 +1,14 @@
 -- A packet that arrives, in the definitions' state: one memory or one note list changes, and an answer goes to the end of the wire.
-use Rattle.lists.specs.Basics.{_≡_, refl, sym, ap, _∙_, Bool, true, false, List, [], _∷_, Option, some, none, ℕ}
-use Rattle.lists.specs.{Tests.either, Map.{upd, upd-self}}
+use Rattle.lists.specs.Basics.{_≡_, refl, sym, ap, _∙_, Bool, true, false, and-true, List, Option, some, none, ℕ}
+use Rattle.lists.specs.{Tests.either, Map.{upd, upd-self}, Questions.put-all}
 use Rattle.protocol.specs.{declared.Entry.Entry, declared.Message.Message, declared.Note.Note, declared.Packet.Packet, declared.Content.Content}
 use Rattle.protocol.specs.{declared.Content.the-variants.{Ask as ASK, GrantOld as GRANT-old, GrantReceived as GRANT-received, GrantNew as GRANT-new, Data as DATA, Note as NOTE, Ack as ACK}}
-use Rattle.protocol.specs.{declared.Lookup.Lookup, declared.Lookup.the-variants.{Missing, Ticketed, Unticketed}, Parts.{State, with-live, with-memory, with-notes}}
+use Rattle.protocol.specs.{declared.Lookup.Lookup, declared.Lookup.the-variants.{Missing, Ticketed, Unticketed}, Parts.State, Setters.{with-live, with-memory, with-notes}}
 use Rattle.protocol.specs.{Packets.{kind, is-worked, reply, new-table, new-log, ask, grant-old, grant-received, grant-new, data-in, ack, entry-of, lookup-of, arrive}}
-use Rattle.protocol.specs.{Questions.{no-entry, is-new, ticket-fits, ticket-admitted, ticket-has-room}}
-use Rattle.deliver.specs.{Effect.{Effect, quiet, grant-of, new-ticket, new-ticket-questions, no-questions, ask-effect, ask-questions, unticketed}}
+use Rattle.protocol.specs.{Packets.{tn-of, note-of, is-noted}, Questions.{no-entry, needs-ticket, needs-note, ticket-fits, ticket-admitted, ticket-has-room, packet-questions}}
+use Rattle.deliver.specs.{Effect.{Effect, quiet, grant-of, new-ticket, ask-effect, ask-questions, unticketed}}
 use Rattle.deliver.specs.{Effect.{grant-old-effect, grant-received-effect, grant-new-effect, data-effect, ack-effect, effect, effect-questions, place-of}}
+use Rattle.deliver.specs.NoteEffect.{note-questions}
 
 unfoldable pub with-reply : State → Packet → Option Content → State
 with-reply s p none = s
@@ -59,22 +60,27 @@ module _ (s : State) (p : Packet) where
   arrive-back (NOTE t) n = absurd (n t refl)
   arrive-back ACK n = unfold ack ack-effect new-table in refl
 
-  -- ---- questions 7 to 10
-  unfoldable pub ticket-questions : Content → List Bool
-  ticket-questions c = ticket-fits s p c ∷ ticket-admitted s p c ∷ true ∷ ticket-has-room s p c ∷ []
+  -- ---- the questions put to the packet found are those of the part of the state that it is for
+  module _ {S : Type 0} (r : S) where
+    ask-questioned : (o : Option Entry) (w : Bool) → p .content ≡ ASK → entry-of s p ≡ o → is-worked (s .live (p .receiver)) (p .sender) (p .sn) ≡ w
+        → put-all (packet-questions s (some p)) r ≡ put-all (ask-questions (s .live (p .receiver)) (p .sender) (p .sn) o w) r
+    unfolding packet-questions ticket-fits ticket-admitted ticket-has-room needs-ticket needs-note no-entry kind entry-of ask-questions put-all
+    ask-questioned (some e) w k h g = rw (k, h)
+    ask-questioned none true k h g = rw (k, h, g)
+    ask-questioned none false k h g = rw (k, h, g, and-true)
 
-  ask-questioned : (o : Option Entry) (w : Bool) → entry-of s p ≡ o → is-worked (s .live (p .receiver)) (p .sender) (p .sn) ≡ w → ticket-questions ASK ≡ ask-questions (s .live (p .receiver)) (p .sender) (p .sn) o w
-  unfolding ticket-questions ticket-fits ticket-admitted ticket-has-room ask-questions no-questions is-new no-entry
-  ask-questioned (some e) w h g = rw h
-  ask-questioned none true h g = rw (h, g)
-  ask-questioned none false h g = rw (h, g) (unfold new-ticket-questions in refl)
+    pub arrive-questioned : (c : Content) → p .content ≡ c → ((t : ℕ) → c ≡ NOTE t → ⊥)
+        → put-all (packet-questions s (some p)) r ≡ put-all (effect-questions (s .live (place-of p c)) p c) r
+    unfolding packet-questions ticket-fits ticket-admitted ticket-has-room needs-ticket needs-note kind effect-questions place-of put-all
+    arrive-questioned ASK k n = unfold entry-of in ask-questioned _ _ k refl refl
+    arrive-questioned GRANT-old k n = rw k
+    arrive-questioned (GRANT-received t) k n = rw k
+    arrive-questioned (GRANT-new t) k n = rw k
+    arrive-questioned (DATA v h) k n = rw k
+    arrive-questioned (NOTE t) k n = absurd (n t refl)
+    arrive-questioned ACK k n = rw k
 
-  pub arrive-questioned : (c : Content) → ((t : ℕ) → c ≡ NOTE t → ⊥) → ticket-questions c ≡ effect-questions (s .live (place-of p c)) p c
-  unfolding ticket-questions ticket-fits ticket-admitted ticket-has-room effect-questions no-questions place-of kind
-  arrive-questioned ASK n = unfold entry-of in ask-questioned _ _ refl refl
-  arrive-questioned GRANT-old n = refl
-  arrive-questioned (GRANT-received t) n = refl
-  arrive-questioned (GRANT-new t) n = refl
-  arrive-questioned (DATA v h) n = refl
-  arrive-questioned (NOTE t) n = absurd (n t refl)
-  arrive-questioned ACK n = refl
+    pub note-questioned : {t : ℕ} → p .content ≡ NOTE t
+        → put-all (packet-questions s (some p)) r ≡ put-all (note-questions (s .notes (s .job .home (p .receiver))) (note-of p t)) r
+    unfolding packet-questions ticket-fits ticket-admitted ticket-has-room needs-ticket needs-note kind tn-of note-of note-questions put-all
+    note-questioned {t} k = either (is-noted (s .notes (s .job .home (p .receiver))) (note-of p t)) (λ q. rw (k, q)) (λ q. rw (k, q))

@@ -1,7 +1,7 @@
 -- Frame 11 as a whole: its questions before the packet is sought, the state after it, and what becomes of a packet found.
 use Rattle.lists.specs.Basics.{Bool, not, _&&_, List, [], _∷_, Option, some, none, ℕ, _<_, leb, length}
-use Rattle.lists.specs.Questions.{Result, refuse, ok, asks}
-use Rattle.protocol.specs.{declared.Answer.the-variants.Accepted, declared.Packet.Packet, declared.Status.Status, Parts.{Job, State, most, with-wire}, Frames.between}
+use Rattle.lists.specs.Questions.{Question, _asks_, Result, refuse, ok, put-all}
+use Rattle.protocol.specs.{declared.Answer.the-variants.Accepted, declared.Packet.Packet, declared.Status.Status, Parts.{Job, State, most}, Setters.with-wire, Frames.between}
 use Rattle.protocol.specs.{Packets.{destination, deliver, note-of}, Step.{Outcome, judged}}
 use Rattle.words.specs.Rows.{without}
 use Rattle.head.specs.Head.{runs}
@@ -16,9 +16,9 @@ unfoldable pub in-range : Job → ℕ → ℕ → ℕ → ℕ → Bool
 in-range j k a r n = between 1 5 k && leb a (j .chares) && between 1 (j .chares) r && between 1 most n
 
 -- questions 2 to 5
-unfoldable pub first-questions : Job → Bool → (ℕ → Status) → ℕ → ℕ → ℕ → ℕ → List Bool
+unfoldable pub first-questions : Job → Bool → (ℕ → Status) → ℕ → ℕ → ℕ → ℕ → List Question
 first-questions j lost status k a r n =
-    j .set ∷ in-range j k a r n ∷ not lost ∷ runs status (destination j k a r) ∷ []
+    2 asks j .set ∷ 3 asks in-range j k a r n ∷ 4 asks not lost ∷ 5 asks runs status (destination j k a r) ∷ []
 
 -- the outcome of a frame with every question answered "yes"
 abbrev pub done : State → Outcome
@@ -40,10 +40,10 @@ then f (ok x) = ok (f x)
 
 -- the packet p, at a place on the wire, comes to the memory of chare c
 unfoldable pub chare-outcome : State → ℕ → ℕ → Packet → Outcome
-chare-outcome s c at p = judged s (then (λ e. done (put-effect (taken-off s at) c p e)) (asks 7 (effect-questions (s .live c) p (p .content)) (effect (s .live c) p (p .content))))
+chare-outcome s c at p = judged s (then (λ e. done (put-effect (taken-off s at) c p e)) (put-all (effect-questions (s .live c) p (p .content)) (effect (s .live c) p (p .content))))
 
 -- as a NOTE of the TN t, it comes to the note list for the receiver's machine
 unfoldable pub note-outcome : State → ℕ → Packet → ℕ → Outcome
 note-outcome s at p t =
     let h = s .job .home (p .receiver) in
-    judged s (then (λ l. done (put-notes (taken-off s at) h p l)) (asks 7 (note-questions (s .notes h) (note-of p t)) (note-effect (s .notes h) (note-of p t))))
+    judged s (then (λ l. done (put-notes (taken-off s at) h p l)) (put-all (note-questions (s .notes h) (note-of p t)) (note-effect (s .notes h) (note-of p t))))

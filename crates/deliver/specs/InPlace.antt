@@ -1,9 +1,9 @@
 -- Frame 11 in place: what its functions leave of the store's parts, put into the store, is what the frame leaves of the state.
-use Rattle.lists.specs.Basics.{_≡_, refl, sym, ap, _∙_, Bool, List, [], _∷_, _++_, ℕ, _<_, _≤_, arith, length, length-append, length-take, length-drop}
-use Rattle.lists.specs.{Map.upd, Questions.{asks, asks-ok}}
+use Rattle.lists.specs.Basics.{_≡_, refl, sym, ap, _∙_, List, [], _∷_, _++_, ℕ, _<_, _≤_, arith, length, length-append, length-take, length-drop}
+use Rattle.lists.specs.{Map.upd, Questions.{Question, put-all, put-ok}}
 use Rattle.arrays.specs.Front.{push-fits}
 use Rattle.protocol.specs.{declared.Answer.the-variants.{Accepted, Refused}, declared.Packet.Packet, declared.Content.the-variants.Ack as ACK}
-use Rattle.protocol.specs.{Parts.{State, with-wire, with-memory, with-notes, wire-room}, Sending.put as sent, Packets.{note-of, reply}, Step.judged}
+use Rattle.protocol.specs.{Parts.{State, wire-room}, Setters.{with-wire, with-memory, with-notes}, Sending.put as sent, Packets.{note-of, reply}, Step.judged}
 use Rattle.words.specs.{Part.{part, put, part-length, part-behind, put-same}, Rows.without}
 use Rattle.head.specs.Head.{job-of}
 use Rattle.notelist.specs.Notes.{notes}
@@ -17,12 +17,13 @@ use Rattle.deliver.specs.{View.{reply-of, effect-of, answered, by-refuse
 use Rattle.deliver.specs.Frame.{done, then, taken-off, Waits, chare-outcome, note-outcome}
 
 -- ---- a part of the store, j words from a on, is put questions and becomes ys: x is what it then means, and f puts that into the state
-module _ (xs : List ℕ) {X : Type 0} {questions : List Bool} {next x : X} (f : X → State) (a j : ℕ) (ys : List ℕ) (n : ℕ) (came : Asked questions next x (part a j xs) ys n) where
-  lent-refused : (n ≡ 0 → ⊥) → Framed xs (put a j xs ys) (Refused n) (judged (view xs) (then (λ y. done (f y)) (asks 7 questions next)))
+module _ (xs : List ℕ) {X : Type 0} {questions : List Question} {next x : X} (f : X → State) (a j : ℕ) (ys : List ℕ) (n : ℕ)
+    (came : Asked questions next x (part a j xs) ys n) where
+  lent-refused : (n ≡ 0 → ⊥) → Framed xs (put a j xs ys) (Refused n) (judged (view xs) (then (λ y. done (f y)) (put-all questions next)))
   unfolding judged then
   lent-refused h = rw (ap (put a j xs) (came .stays h) ∙ put-same a j xs, ← came .gives, by-refused n x h) (refuses xs n refl)
 
-  lent-done : n ≡ 0 → (zs : List ℕ) → view zs ≡ f x → Framed xs zs Accepted (judged (view xs) (then (λ y. done (f y)) (asks 7 questions next)))
+  lent-done : n ≡ 0 → (zs : List ℕ) → view zs ≡ f x → Framed xs zs Accepted (judged (view xs) (then (λ y. done (f y)) (put-all questions next)))
   unfolding judged then outcome
   lent-done z zs e = rw (← came .gives, by-none n x z, ← e) (accepts xs zs refl)
 
@@ -59,7 +60,7 @@ module _ (xs : List ℕ) (size : length xs ≡ STORE) (at : ℕ) (p : Packet) (w
     unfolding effect-of
     reply-sent clear =
         let m = memory-view (part (live-from c) MEMORY xs) in
-        let q = asks-ok 7 (effect-questions m p (p .content)) (effect m p (p .content)) (effect-of ys (r .reply)) (sym (came .asked .gives) ∙ by-none (r .refusal) _ clear) .1 in
+        let q = put-ok (effect-questions m p (p .content)) (effect m p (p .content)) (effect-of ys (r .reply)) (sym (came .asked .gives) ∙ by-none (r .refusal) _ clear) .1 in
         let d : reply-of (r .reply) ≡ effect m p (p .content) .reply = sym (ap (λ e. e .reply) q) in
         rw d (reply-fits (part (live-from c) MEMORY xs) p (p .content))
 

@@ -1,12 +1,12 @@
 -- What the answers of this crate's functions mean.
-use Rattle.lists.specs.Basics.{_≡_, refl, _∙_, Bool, List, Option, some, none, ℕ, zero, suc, _<_, arith}
-use Rattle.lists.specs.Questions.{Result, ok, refuse, asks}
+use Rattle.lists.specs.Basics.{_≡_, refl, _∙_, List, [], Option, some, none, ℕ, zero, suc, _<_, arith}
+use Rattle.lists.specs.Questions.{Question, Result, ok, refuse, put-all}
 use Rattle.arrays.specs.Front.{push}
 use Rattle.protocol.specs.{declared.Content.Content, declared.Packet.Packet, Parts.{Memory, wire-room}}
 use Rattle.packets.specs.Words.{fitted}
 use Rattle.memory.specs.View.{memory-view}
 use Rattle.deliver.specs.{declared.arrive.Reply.Reply, declared.arrive.Reply.the-variants.{Nothing, Send}, declared.arrive.Arrived.Arrived}
-use Rattle.deliver.specs.Effect.{Effect, effect, effect-questions, no-questions}
+use Rattle.deliver.specs.Effect.{Effect, effect, effect-questions}
 
 unfoldable pub reply-of : Reply → Option Content
 reply-of Nothing = none
@@ -38,31 +38,31 @@ module _ {S : Type 0} where
 
 -- The questions from 7 on are put to words: the number of the first "no", or 0, and then x, which the words now mean, is what should follow.
 -- A refusal leaves every word as it was.
-pub record Asked {X : Type 0} (questions : List Bool) (next x : X) (before after : List ℕ) (refusal : ℕ) : Type 0 where
-  pub gives : by-number refusal x ≡ asks 7 questions next
+pub record Asked {X : Type 0} (questions : List Question) (next x : X) (before after : List ℕ) (refusal : ℕ) : Type 0 where
+  pub gives : by-number refusal x ≡ put-all questions next
   pub stays : (refusal ≡ 0 → ⊥) → after ≡ before
 
 -- The same of a packet at a memory; a refusal has no reply.
-pub record Arriving (questions : List Bool) (e : Effect) (before after : List ℕ) (r : Arrived) : Type 0 where
+pub record Arriving (questions : List Question) (e : Effect) (before after : List ℕ) (r : Arrived) : Type 0 where
   pub asked : Asked questions e (effect-of after (r .reply)) before after (r .refusal)
   pub silent : (r .refusal ≡ 0 → ⊥) → r .reply ≡ Nothing
 
-module _ {X : Type 0} {questions : List Bool} {next x : X} {before after : List ℕ} (n : ℕ) where
-  pub passes : n ≡ 0 → ok x ≡ asks 7 questions next → Asked questions next x before after n
+module _ {X : Type 0} {questions : List Question} {next x : X} {before after : List ℕ} (n : ℕ) where
+  pub passes : n ≡ 0 → ok x ≡ put-all questions next → Asked questions next x before after n
   passes z q = record { gives = by-none n x z ∙ q; stays = λ h. absurd (h z) }
 
-  pub stops : (n ≡ 0 → ⊥) → refuse n ≡ asks 7 questions next → after ≡ before → Asked questions next x before after n
+  pub stops : (n ≡ 0 → ⊥) → refuse n ≡ put-all questions next → after ≡ before → Asked questions next x before after n
   stops h q s = record { gives = by-refused n x h ∙ q; stays = λ _. s }
 
-module _ {questions : List Bool} {e : Effect} (before after : List ℕ) (r : Arrived) where
-  pub replying : (y : Reply) → (r .refusal ≡ 0) × (r .reply ≡ y) → ok (effect-of after y) ≡ asks 7 questions e → Arriving questions e before after r
+module _ {questions : List Question} {e : Effect} (before after : List ℕ) (r : Arrived) where
+  pub replying : (y : Reply) → (r .refusal ≡ 0) × (r .reply ≡ y) → ok (effect-of after y) ≡ put-all questions e → Arriving questions e before after r
   replying y p q = record { asked = passes (r .refusal) (p .0) (rw (p .1) q); silent = λ h. absurd (h (p .0)) }
 
-  pub refusing : (n : ℕ) → 0 < n → (r .refusal ≡ n) × (r .reply ≡ Nothing) → refuse n ≡ asks 7 questions e → after ≡ before → Arriving questions e before after r
+  pub refusing : (n : ℕ) → 0 < n → (r .refusal ≡ n) × (r .reply ≡ Nothing) → refuse n ≡ put-all questions e → after ≡ before → Arriving questions e before after r
   refusing n h p q s = record { asked = stops (r .refusal) (λ z. let w = p .0 in omega arith) (rw (p .0) q) s; silent = λ _. p .1 }
 
 -- a packet of the content c, to which no question is put
-pub did : (m : Memory) (p : Packet) {c d : Content} → d ≡ c → (before after : List ℕ) (r : Arrived) (y : Reply) → effect-questions m p c ≡ no-questions
+pub did : (m : Memory) (p : Packet) {c d : Content} → d ≡ c → (before after : List ℕ) (r : Arrived) (y : Reply) → effect-questions m p c ≡ []
     → (r .refusal ≡ 0) × (r .reply ≡ y) → effect-of after y ≡ effect m p c → Arriving (effect-questions m p d) (effect m p d) before after r
-unfolding no-questions asks
+unfolding put-all
 did m p is-c before after r y q h e = rw is-c (replying before after r y h (rw (q, e)))

@@ -1,5 +1,5 @@
 -- Frame 11 as a whole, in place: refused by its first questions, the packet missing, or found and brought to where it goes.
-use Rattle.lists.specs.Basics.{_≡_, sym, ap, _∙_, Bool, cond, List, [], _∷_, ⊎-elim, some, ℕ, _<_, arith, eqb-true, leb-true, eqb, leb, length}
+use Rattle.lists.specs.Basics.{_≡_, refl, sym, ap, _∙_, Bool, cond, List, [], _∷_, ⊎-elim, some, ℕ, _<_, arith, eqb-true, leb-true, eqb, leb, length}
 use Rattle.lists.specs.{Tests.{either, and-r, and4, split, lt?}, Lists.{find, find-some, remove1}, Questions.{first-no, first-no-yes}}
 use Rattle.protocol.specs.{declared.Answer.Answer, declared.Answer.the-variants.Refused, declared.Packet.Packet, declared.Content.the-variants.Note as NOTE, Packets.{kind, is-named}}
 use Rattle.protocol.specs.{Frames.between, Questions.on-wire}
@@ -26,7 +26,7 @@ module _ {A : Type 0} (q : A → Bool) where
       (λ h. absurd (let z : length (remove1 q l) ≡ length l = ap length (left ∙ without-none l at h) in omega (arith, remove1-length l e)))
       (lt? at (length l))
 
-module _ (xs : List ℕ) (k a r n : ℕ) (no : ℕ) (first : no ≡ first-no 2 (first-questions (job-of xs) (lost-of xs) (status-of xs) k a r n)) where
+module _ (xs : List ℕ) (k a r n : ℕ) (no : ℕ) (first : no ≡ first-no (first-questions (job-of xs) (lost-of xs) (status-of xs) k a r n)) where
   seen : no ≡ firsts (view xs) k a r n
   unfolding view
   seen = first
@@ -39,7 +39,7 @@ module _ (xs : List ℕ) (k a r n : ℕ) (no : ℕ) (first : no ≡ first-no 2 (
     pub place-fits : cond (eqb k 2) a r < 13
     unfolding first-questions in-range between
     place-fits =
-        let range = first-no-yes 1 (first-questions (job-of xs) (lost-of xs) (status-of xs) k a r n) (sym first ∙ clear) .1 .0 in
+        let range = first-no-yes (first-questions (job-of xs) (lost-of xs) (status-of xs) k a r n) refl (sym first ∙ clear) .1 .0 in
         let j = job-of xs in
         let f = and4 (between 1 5 k) (leb a (j .chares)) (between 1 (j .chares) r) (between 1 60000 n) range in
         let x : a < 13 = omega (arith, chares-top xs, leb-true a (j .chares) (f .1)) in

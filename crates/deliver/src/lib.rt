@@ -55,7 +55,7 @@ fn in_range(s: &[u64], kind: u8, sender: u8, receiver: u8, sn: u16) -> bool
 // The questions before the packet is sought: the number of the first "no", or 0.
 fn judge(s: &[u64], kind: u8, sender: u8, receiver: u8, sn: u16) -> u8
     requires { ⌜ HEAD ≤ length (now s) ⌝ }
-    ensures { λ r. ⌜ r ≡ first-no 2 (first-questions (job-of (now (s .entry))) (lost-of (now (s .entry))) (status-of (now (s .entry))) kind sender receiver sn) ⌝ }
+    ensures { λ r. ⌜ r ≡ first-no (first-questions (job-of (now (s .entry))) (lost-of (now (s .entry))) (status-of (now (s .entry))) kind sender receiver sn) ⌝ }
 {
     let to = head::destination(s, kind, sender, receiver);
     head::first_no(

@@ -1,6 +1,6 @@
 -- The frame that the reader answers decides the step: what its crate gives, and then what settles.
 use Rattle.lists.specs.Basics.{_≡_, refl, sym, ap, _∙_, Bool, true, false, Option, some, none, ℕ}
-use Rattle.lists.specs.Questions.{asks}
+use Rattle.lists.specs.Questions.{put-all}
 use Rattle.protocol.specs.{declared.Answer.the-variants.{Accepted, Refused}, Parts.State, Frames.{Line, frame}}
 use Rattle.protocol.specs.{Job.begin, Sending.send, Working.next-entry, Checkpoint.checkpoint, Crash.has-cover, Restart.restart}
 use Rattle.protocol.specs.Questions.{questions, job-questions, inject-questions, deliver-questions, on-wire, work-questions}
@@ -23,9 +23,9 @@ acted s l (Inject c v h) = tried s (inject-questions s c v h) (send s 0 c v h)
 acted s l (Deliver k a r n) = tried s (deliver-questions s k a r n) (delivered s k a r n (on-wire s k a r n))
 acted s l (Work c) = tried s (work-questions s c) (worked-state s c (next-entry (s .live c)))
 acted s l (Checkpoint p) = tried s (checkpoint-questions s p) (checkpoint s p)
-acted s l (Crash p) = judged s (asks 2 (crash-questions s p) (crash-tried s p (has-cover s p)))
+acted s l (Crash p) = judged s (put-all (crash-questions s p) (crash-tried s p (has-cover s p)))
 acted s l (Restart p) = tried s (restart-questions s p) (restart s p)
-acted s l (Show c) = judged s (asks 2 (show-questions s c) (shown s c))
+acted s l (Show c) = judged s (put-all (show-questions s c) (shown s c))
 
 -- accepted, whether or not there is something to act on
 accepts : {X : Type 0} (x : Option X → Outcome) (t : Option X → State) → x none ≡ accept (t none) → ((a : X) → x (some a) ≡ accept (t (some a)))
@@ -44,14 +44,14 @@ module _ (s : State) where
   acted-settles : (l : Line) (f : Frame) → step-frame s (meaning l f) ≡ settle-after (acted s l f)
   unfolding step-frame meaning play outcome deliver-outcome work-outcome questions accept acted tried delivered worked-state shown settle-after settles
   acted-settles l Garbled = refl
-  acted-settles l Job = judged-settles s 2 _ _ _ refl
-  acted-settles l (Inject c v h) = judged-settles s 2 _ _ _ refl
-  acted-settles l (Deliver k a r n) = judged-settles s 2 _ _ _ (accepts (deliver-outcome s k a r n) (delivered s k a r n) refl (λ p. refl) (on-wire s k a r n))
-  acted-settles l (Work c) = judged-settles s 2 _ _ _ (accepts (work-outcome s c) (worked-state s c) refl (λ e. refl) (next-entry (s .live c)))
-  acted-settles l (Checkpoint p) = judged-settles s 2 _ _ _ refl
-  acted-settles l (Crash p) = judged-settles s 2 _ _ _ (crash-settles p (has-cover s p))
-  acted-settles l (Restart p) = judged-settles s 2 _ _ _ refl
-  acted-settles l (Show c) = judged-settles s 2 _ _ _ refl
+  acted-settles l Job = judged-settles s _ _ _ refl
+  acted-settles l (Inject c v h) = judged-settles s _ _ _ refl
+  acted-settles l (Deliver k a r n) = judged-settles s _ _ _ (accepts (deliver-outcome s k a r n) (delivered s k a r n) refl (λ p. refl) (on-wire s k a r n))
+  acted-settles l (Work c) = judged-settles s _ _ _ (accepts (work-outcome s c) (worked-state s c) refl (λ e. refl) (next-entry (s .live c)))
+  acted-settles l (Checkpoint p) = judged-settles s _ _ _ refl
+  acted-settles l (Crash p) = judged-settles s _ _ _ (crash-settles p (has-cover s p))
+  acted-settles l (Restart p) = judged-settles s _ _ _ refl
+  acted-settles l (Show c) = judged-settles s _ _ _ refl
 
   pub steps : (l : Line) (f : Frame) → f ≡ read-as (frame l) → step s l ≡ settle-after (acted s l f)
   unfolding step

@@ -1,6 +1,7 @@
 -- The head of the store: job, statuses, copies held, targets, one word each. Any contents count: a number out of range counts as the
 -- largest in range.
 use Rattle.lists.specs.Basics.{Bool, cond, not, _||_, List, [], _∷_, ℕ, _+_, min, eqb, getD}
+use Rattle.lists.specs.Questions.{Question, _asks_}
 use Rattle.arrays.specs.ArrayMap.{as-map}
 use Rattle.protocol.specs.{declared.Status.Status, declared.Status.the-variants.{Up, Down, CatchingUp}, Frames.between, Parts.{Job, is-down}}
 use Rattle.words.specs.Part.{part}
@@ -78,5 +79,5 @@ unfoldable pub runs : (ℕ → Status) → ℕ → Bool
 runs status p = eqb p 0 || not (is-down (status p))
 
 -- the questions 2 to 5 of a frame on chare c
-unfoldable pub chare-asked : Job → Bool → (ℕ → Status) → ℕ → List Bool
-chare-asked j lost status c = j .set ∷ between 1 (j .chares) c ∷ not lost ∷ runs status (j .home c) ∷ []
+unfoldable pub chare-asked : Job → Bool → (ℕ → Status) → ℕ → List Question
+chare-asked j lost status c = 2 asks j .set ∷ 3 asks between 1 (j .chares) c ∷ 4 asks not lost ∷ 5 asks runs status (j .home c) ∷ []

@@ -6,7 +6,7 @@ ghost use mathlib.Core.List.{[], _∷_};
 ghost use Prim.Native.Nat.{_+_, _≤_, min};
 ghost use lib.Dec.{leb};
 ghost use lib.ListN.{length};
-ghost use Rattle.lists.specs.Questions.{first-no};
+ghost use Rattle.lists.specs.Questions.{_asks_, first-no};
 ghost use Rattle.arrays.specs.ArrayMap.{as-map};
 ghost use Rattle.protocol.specs.Parts.{on};
 ghost use Rattle.protocol.specs.Sending.{is-local};
@@ -234,7 +234,7 @@ pub fn is_sender(h: &[u64], c: u8) -> bool
 
 // The questions 2 to 5: the first that is answered "no", or 0.
 pub fn first_no(set: bool, in_range: bool, lost: bool, up: bool) -> u8
-    ensures { λ r. ⌜ r ≡ first-no 2 (set ∷ in_range ∷ not lost ∷ up ∷ []) ⌝ }
+    ensures { λ r. ⌜ r ≡ first-no (2 asks set ∷ 3 asks in_range ∷ 4 asks not lost ∷ 5 asks up ∷ []) ⌝ }
 {
     if !set {
         return 2;
@@ -251,7 +251,7 @@ pub fn first_no(set: bool, in_range: bool, lost: bool, up: bool) -> u8
 // These questions of a frame on chare `c`.
 pub fn judge_chare(h: &[u64], c: u8) -> u8
     requires { ⌜ HEAD ≤ length (now h) ⌝ }
-    ensures { λ r. ⌜ r ≡ first-no 2 (chare-asked (job-of (now (h .entry))) (lost-of (now (h .entry))) (status-of (now (h .entry))) c) ⌝ }
+    ensures { λ r. ⌜ r ≡ first-no (chare-asked (job-of (now (h .entry))) (lost-of (now (h .entry))) (status-of (now (h .entry))) c) ⌝ }
 {
     let p = home(h, c);
     first_no(is_set(h), is_chare(h, c), is_lost(h), is_up(h, p))

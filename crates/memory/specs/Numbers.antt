@@ -3,7 +3,8 @@ use lib.Seq.{set-set, set-comm, set-getD}
 use Rattle.lists.specs.Basics.{_≡_, ap, fun-ext, _∙_, Bool, List, [], _∷_, map, ℕ, _+_, _%_, _≤_, _<_, arith, mod-eq-of-lt, eqb, length, getD, set, length-map, length-set}
 use Rattle.lists.specs.{Tests.either, Map.upd}
 use Rattle.arrays.specs.ArrayMap.{as-map}
-use Rattle.protocol.specs.Parts.{Memory, with-sn}
+use Rattle.protocol.specs.Parts.{Memory}
+use Rattle.protocol.specs.Setters.{with-sn}
 use Rattle.window.specs.Bits.{bits}
 use Rattle.words.specs.{Part.{part, part-length}, PartSet.{part-set, part-set-before, part-set-behind}, Mapped.map-set}
 use Rattle.memory.specs.{declared.Numbers.Numbers, Places.{STATE, HEIGHT, NUMBERS, SN, MARK, WINDOW, TABLE, ROW, LOG, MEMORY}, View.memory-view}

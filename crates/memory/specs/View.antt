@@ -2,7 +2,7 @@
 -- so each has a mark.
 use Rattle.lists.specs.Basics.{_≡_, refl, sym, ap, _∙_, List, map, ℕ, _+_, _%_, _≤_, _<_, arith, length, getD, length-map, List·getD-map}
 use Rattle.arrays.specs.ArrayMap.{as-map, map-beyond}
-use Rattle.protocol.specs.{declared.Entry.Entry, declared.Logged.Logged, Parts.{Memory, with-table, with-log}}
+use Rattle.protocol.specs.{declared.Entry.Entry, declared.Logged.Logged, Parts.Memory, Setters.{with-table, with-log}}
 use Rattle.window.specs.Bits.{bits}
 use Rattle.words.specs.Part.{part, put, part-at, part-length, part-put, part-before, part-behind}
 use Rattle.memory.specs.Places.{STATE, HEIGHT, TOP, NUMBERS, SN, MARK, WINDOW, TABLE, ROW, LOG, MEMORY}

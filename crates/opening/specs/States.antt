@@ -1,7 +1,7 @@
 -- Chares start with their numbers as states, one after the other.
 use Rattle.lists.specs.Basics.{_≡_, refl, sym, ap, _∙_, cond, List, [], _∷_, ℕ, _+_, _-_, _<_, _≤_, arith, mod-eq-of-lt, length, set}
 use Rattle.lists.specs.Map.{upd}
-use Rattle.protocol.specs.{Parts.{Memory, State, with-memory}, Frames.between, Recovery.Frames.Job.true-between}
+use Rattle.protocol.specs.{Parts.{Memory, State}, Setters.with-memory, Frames.between, Recovery.Frames.Job.true-between}
 use Rattle.frames.specs.Range.{between-low, between-high}
 use Rattle.words.specs.Part.{part, put, part-length}
 use Rattle.memory.specs.{Places.{STATE, MEMORY}, View.memory-view}

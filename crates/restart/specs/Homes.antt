@@ -1,8 +1,9 @@
 -- The chares of p take what they get back; the others stay. Their tables stand in rows, one a chare.
 use Rattle.lists.specs.Basics.{_≡_, refl, _∙_, fun-ext, Bool, true, false, not, _||_, List, ⊎-elim, ℕ, _+_, _-_, _*_, _<_, _≤_, arith, leb, length}
 use Rattle.lists.specs.{Tests.{either, true-not-false, lt?}, Lists.allb}
-use Rattle.protocol.specs.{declared.Entry.Entry, Parts.{State, Memory, on, at-home, every-chare, with-live, with-status}, Restart.{filled-table, target-of}}
+use Rattle.protocol.specs.{declared.Entry.Entry, Parts.{State, Memory, on, at-home, every-chare}, Setters.{with-live, with-status}, Restart.{filled-table, target-of}}
 use Rattle.protocol.specs.Questions.{tables-fit}
+use Rattle.lists.specs.Counting.{counting}
 use Rattle.arrays.specs.Loops.{each, each-hit, each-miss, each-end, allb-keep}
 use Rattle.words.specs.Part.{part, put, part-put, part-before}
 use Rattle.tickets.specs.Table.{entries}
@@ -32,7 +33,7 @@ pub record Going (s : State) (p c : ℕ) (rows : List ℕ) : Type 0 where
   pub table : (i : ℕ) → i < c → 1 ≤ i → on (s .job) p i ≡ true → table-in rows i ≡ filled-table s p i
 
 pub going-start : (s : State) (p : ℕ) (rows : List ℕ) → Going s p 1 rows
-unfolding tables-fit passes every-chare allb each
+unfolding tables-fit passes every-chare allb counting
 going-start s p rows = record { fits = allb-keep _ (on (s .job) p) every-chare; table = λ i b a. absurd (omega arith) }
 
 -- what holds below c and at c holds below c + 1

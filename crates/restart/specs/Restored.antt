@@ -1,7 +1,7 @@
 -- What a chare has after the restart: its copy, with another table and the top of that.
 use Rattle.lists.specs.Basics.{_≡_, sym, _∙_, List, ℕ, _+_, _-_, _<_, _≤_, arith, mod-eq-of-lt, length, set, getD-set-same, getD-set-other}
 use Rattle.lists.specs.Map.{upd}
-use Rattle.protocol.specs.{declared.Entry.Entry, Parts.{Memory, State, with-table, with-top, with-live, with-status}, Tickets.highest, Restart.target-of}
+use Rattle.protocol.specs.{declared.Entry.Entry, Parts.{Memory, State}, Setters.{with-table, with-top, with-live, with-status}, Tickets.highest, Restart.target-of}
 use Rattle.words.specs.{Part.{part, put, part-length, part-put, put-length, put-again}, PartSet.{part-set, part-set-before}}
 use Rattle.head.specs.Head.{TARGET}
 use Rattle.tickets.specs.Table.{entries}

@@ -1,8 +1,9 @@
 -- A restart put together: the tables in rows, the wire beside the store, and the store changed by both.
 use Rattle.lists.specs.Basics.{_≡_, refl, sym, _∙_, fun-ext, Bool, true, false, not, List, _≢_, ℕ, _≤_, arith, eqb, length}
-use Rattle.lists.specs.{Tests.either, Lists.{keep, gather}, Map.upd, Questions.{asks, first-no}}
+use Rattle.lists.specs.{Tests.either, Lists.{keep, gather}, Map.upd, Questions.{put-all, first-no}}
 use Rattle.protocol.specs.{declared.Answer.the-variants.{Accepted, Refused}, declared.Packet.Packet, declared.Status.the-variants.CatchingUp}
-use Rattle.protocol.specs.{Parts.{State, on, at-home, every-sender, with-status, with-live, with-wire, is-down}, Packets.goes-to, Restart.{restart, restore, restored, target-of}}
+use Rattle.protocol.specs.{Parts.{State, on, at-home, every-sender, is-down}, Setters.{with-status, with-live, with-wire}, Packets.goes-to}
+use Rattle.protocol.specs.Restart.{restart, restore, restored, target-of}
 use Rattle.protocol.specs.{Questions.{restart-questions, is-machine, wire-fits}, Step.judged}
 use Rattle.words.specs.Part.{part}
 use Rattle.head.specs.Head.{job-of}
@@ -30,7 +31,7 @@ module _ (s : State) (p : ℕ) (rows : List ℕ) (same : (c : ℕ) → on (s .jo
   back-restart w e = λ i. with-wire (with-live (with-status s (upd p CatchingUp (s .status)) (same-target i)) (same-live i)) (e i)
 
 -- ---- the frame, as the code goes
-module _ (xs : List ℕ) (size : length xs ≡ STORE) (p n : ℕ) (e : n ≡ first-no 2 (asked (view xs) p)) where
+module _ (xs : List ℕ) (size : length xs ≡ STORE) (p n : ℕ) (e : n ≡ first-no (asked (view xs) p)) where
   pub refuse-first : n ≢ 0 → Framed xs xs (Refused n) (tried (view xs) (restart-questions (view xs) p) (restart (view xs) p))
   refuse-first h = refuses xs n (early (view xs) p n e h)
 
@@ -41,7 +42,7 @@ module _ (xs : List ℕ) (size : length xs ≡ STORE) (p n : ℕ) (e : n ≡ fir
 
     module _ (rows : List ℕ) (r : Bool) (built : AllTables (view xs) p rows r) where
       pub refuse-tables : r ≡ false → Framed xs xs (Refused 10) (tried (view xs) (restart-questions (view xs) p) (restart (view xs) p))
-      unfolding judged asks
+      unfolding judged put-all
       refuse-tables f = refuses xs 10 (late (view xs) p n e z ∙ rw (sym (built .fits) ∙ f))
 
       module _ (f : r ≡ true) (a b d : List ℕ) (y : Bool) (copied : a ≡ part WIRE PACKETS xs) (long : length b ≡ PACKETS)
@@ -56,11 +57,11 @@ module _ (xs : List ℕ) (size : length xs ≡ STORE) (p n : ℕ) (e : n ≡ fir
         limited = held-same y _ (packets d) _ (sent ∙ putting-all (packets b) _ (omega (arith, packets-fit b)) ∙ rw (kept, copied, ← wire-at xs, ← job-at xs, ← resends-is (view xs) p))
 
         pub refuse-wire : y ≡ false → Framed xs xs (Refused 11) (tried (view xs) (restart-questions (view xs) p) (restart (view xs) p))
-        unfolding judged asks
+        unfolding judged put-all
         refuse-wire g = refuses xs 11 (late (view xs) p n e z ∙ rw (sym (built .fits) ∙ f, sym (limited .0) ∙ g))
 
         pub accept : y ≡ true → (out : List ℕ) → view out ≡ back (view xs) p rows (packets d) → Framed xs out Accepted (tried (view xs) (restart-questions (view xs) p) (restart (view xs) p))
-        unfolding outcome judged asks
+        unfolding outcome judged put-all
         accept g out q =
             let same-state = q ∙ back-restart (view xs) p rows same (packets d) (limited .1 g) in
             accepts xs out (late (view xs) p n e z ∙ rw (sym (built .fits) ∙ f, sym (limited .0) ∙ g, same-state))

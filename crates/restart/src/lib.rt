@@ -41,7 +41,7 @@ fn is_down(s: &[u64], p: u8) -> bool
 // The questions 2 to 5.
 fn judge(s: &[u64], p: u8) -> u8
     requires { ⌜ length (now s) ≡ STORE ⌝ }
-    ensures { λ r. ⌜ r ≡ first-no 2 (asked (view (now (s .entry))) p) ⌝ }
+    ensures { λ r. ⌜ r ≡ first-no (asked (view (now (s .entry))) p) ⌝ }
 {
     head::first_no(
         head::is_set(s),

@@ -1,7 +1,7 @@
 -- What a send leaves of a memory and of the wire, from what the functions on their rows answer.
 use Rattle.lists.specs.Basics.{_≡_, _∙_, List, ℕ, _+_, _-_, _%_, _<_, arith, mod-eq-of-lt, length, set, length-set}
 use Rattle.arrays.specs.Front.{push}
-use Rattle.protocol.specs.{declared.Message.Message, declared.Content.Content, Parts.with-table, Sending.{about, local-entry}, Tickets.filled}
+use Rattle.protocol.specs.{declared.Message.Message, declared.Content.Content, Setters.with-table, Sending.{about, local-entry}, Tickets.filled}
 use Rattle.words.specs.Part.{part, put, part-length}
 use Rattle.packets.specs.Fits.{fits-same}
 use Rattle.memory.specs.{Places.{SN, TABLE, ROW, LOG, MEMORY}, Numbers.sn-set, View.{memory-view, log-changed, table-changed}}

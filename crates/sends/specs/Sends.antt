@@ -1,41 +1,41 @@
 -- The questions 7 to 11 for none, one or two sends, by their plans.
 use Rattle.lists.specs.Basics.{_≡_, refl, subst, _∙_, Bool, true, false, _&&_, and-true, and-false, List, [], _∷_, ℕ, _+_, arith, add-one, length}
 use Rattle.lists.specs.Basics.{ltb-true, ltb-false, lt-leb, le-leb, lt-ltb, ltb, leb}
-use Rattle.lists.specs.{Tests.{either, and-l, and-r}, Questions.{asks, first-no}}
+use Rattle.lists.specs.{Tests.{either, and-l, and-r}, Questions.{Question, _asks_, put-all, first-no}}
 use Rattle.protocol.specs.{declared.Answer.the-variants.Accepted, Parts.State, Sending.{send, send-all}}
 use Rattle.protocol.specs.{Questions.{numbers-fit, window-admits, log-has-room, table-has-room, wire-fits, put-to-all}, Step.{Outcome, judged}}
 use Rattle.sends.specs.{declared.plan.Plan.Plan, Ticket.{fits, growth, message-after}, Plan.{plan-of, plan-after}, PlanLaws.{Judges, judges}}
 use Rattle.sends.specs.{Sent.{sent-by, ticketed-by, wire-grown, log-after}, SecondLaws.after-first}
 
-unfoldable pub sends-questions : State → ℕ → List ℕ → ℕ → ℕ → List Bool
+unfoldable pub sends-questions : State → ℕ → List ℕ → ℕ → ℕ → List Question
 sends-questions s a l v h =
-    put-to-all numbers-fit s a l v h
-    ∷ put-to-all window-admits s a l v h
-    ∷ put-to-all log-has-room s a l v h
-    ∷ put-to-all table-has-room s a l v h
-    ∷ wire-fits (send-all s a l v h)
+    7 asks put-to-all numbers-fit s a l v h
+    ∷ 8 asks put-to-all window-admits s a l v h
+    ∷ 9 asks put-to-all log-has-room s a l v h
+    ∷ 10 asks put-to-all table-has-room s a l v h
+    ∷ 11 asks wire-fits (send-all s a l v h)
     ∷ []
 
 -- the sends made in w, or s as it was
 unfoldable pub tried-sends : State → State → ℕ → List ℕ → ℕ → ℕ → Outcome
-tried-sends s w a l v h = judged s (asks 7 (sends-questions w a l v h) (record { state = send-all w a l v h; answer = Accepted }))
+tried-sends s w a l v h = judged s (put-all (sends-questions w a l v h) (record { state = send-all w a l v h; answer = Accepted }))
 
 -- the first "no" of 7 to 11 by the plans, from the lengths of the sender's log and of the wire
 unfoldable pub one-verdict : Plan → ℕ → ℕ → ℕ
-one-verdict p log wire = first-no 7 (fits (p .ticket) ∷ p .admits ∷ leb (log + 1) 16 ∷ p .room ∷ leb (wire + growth (p .ticket)) 128 ∷ [])
+one-verdict p log wire = first-no (7 asks fits (p .ticket) ∷ 8 asks p .admits ∷ 9 asks leb (log + 1) 16 ∷ 10 asks p .room ∷ 11 asks leb (wire + growth (p .ticket)) 128 ∷ [])
 
 unfoldable pub two-verdict : Plan → Plan → ℕ → ℕ → ℕ
 two-verdict p q log wire =
-    first-no 7 (
-    (fits (p .ticket) && fits (q .ticket))
-    ∷ (p .admits && q .admits)
-    ∷ leb (log + 2) 16
-    ∷ (p .room && q .room)
-    ∷ leb (wire + growth (p .ticket) + growth (q .ticket)) 128
+    first-no (
+    7 asks (fits (p .ticket) && fits (q .ticket))
+    ∷ 8 asks (p .admits && q .admits)
+    ∷ 9 asks leb (log + 2) 16
+    ∷ 10 asks (p .room && q .room)
+    ∷ 11 asks leb (wire + growth (p .ticket) + growth (q .ticket)) 128
     ∷ [])
 
 -- the later questions count only where the first is answered "yes"
-first-no-guard : (n : ℕ) (p q : Bool) (l m : List Bool) → p ≡ q → (q ≡ true → l ≡ m) → first-no n (p ∷ l) ≡ first-no n (q ∷ m)
+first-no-guard : (n : ℕ) (p q : Bool) (l m : List Question) → p ≡ q → (q ≡ true → l ≡ m) → first-no (n asks p ∷ l) ≡ first-no (n asks q ∷ m)
 unfolding first-no
 first-no-guard n p true l m e f = rw (e, f refl)
 first-no-guard n p false l m e f = rw e
@@ -54,7 +54,7 @@ module _ (s : State) (a b v h : ℕ) where
   first-log : fits (plan-of s a b .ticket) ≡ true → length (send s a b v h .live a .log) ≡ length (s .live a .log) + 1
   first-log f = rw (judges s a b .sends f v h) (log-after s (message-after a b (s .live a .sn b) v h) (plan-of s a b .ticket))
 
-  pub one-judged : first-no 7 (sends-questions s a (b ∷ []) v h) ≡ one-verdict (plan-of s a b) (length (s .live a .log)) (length (s .wire))
+  pub one-judged : first-no (sends-questions s a (b ∷ []) v h) ≡ one-verdict (plan-of s a b) (length (s .live a .log)) (length (s .wire))
   unfolding one-verdict sends-questions put-to-all send-all wire-fits log-has-room
   one-judged =
       let j = judges s a b in
@@ -82,7 +82,7 @@ module _ (s : State) (a b v h d : ℕ) where
       let e = after-first s a b v h d f in
       first-wire (send s a b v h) a d v h (rw e g) ∙ rw (e, first-wire s a b v h f)
 
-  pub two-judged : first-no 7 (sends-questions s a (b ∷ d ∷ []) v h) ≡ two-verdict first second (length (s .live a .log)) (length (s .wire))
+  pub two-judged : first-no (sends-questions s a (b ∷ d ∷ []) v h) ≡ two-verdict first second (length (s .live a .log)) (length (s .wire))
   unfolding two-verdict sends-questions put-to-all send-all wire-fits log-has-room
   two-judged =
       first-no-guard 7 _ _ _ _ both-fit

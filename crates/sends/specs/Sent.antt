@@ -1,7 +1,7 @@
 -- A message sent, by how it gets its ticket, and what that leaves: memories, counts, lengths.
 use Rattle.lists.specs.Basics.{_≡_, refl, ap, _∙_, List, ℕ, _+_, arith, length, length-append}
 use Rattle.lists.specs.Map.{upd, upd-ind, upd-same}
-use Rattle.protocol.specs.{declared.Entry.Entry, declared.Message.Message, declared.Packet.Packet, Parts.{State, Memory, with-table, with-memory, with-wire}}
+use Rattle.protocol.specs.{declared.Entry.Entry, declared.Message.Message, declared.Packet.Packet, Parts.{State, Memory}, Setters.{with-table, with-memory, with-wire}}
 use Rattle.head.specs.Sets.{over}
 use Rattle.sends.specs.{declared.ticket.Ticket.Ticket, declared.ticket.Ticket.the-variants.{Remote, Found, New, TooHigh}}
 use Rattle.sends.specs.{Ticket.{Adds, snoc, growth, tn-of, table-by, wire-by, log-by}}

@@ -1,7 +1,7 @@
 -- A message sent where the store stands: the receiver's memory, the sender's and the wire, one after the other.
 use Rattle.lists.specs.Basics.{_≡_, refl, true, _∙_, List, ℕ, _+_, _<_, _≤_, length}
 use Rattle.arrays.specs.Front.{push-fits}
-use Rattle.protocol.specs.{declared.Message.Message, Parts.{State, with-table}}
+use Rattle.protocol.specs.{declared.Message.Message, Parts.State, Setters.with-table}
 use Rattle.words.specs.Part.{part, put}
 use Rattle.packets.specs.Words.{packets}
 use Rattle.memory.specs.{Places.MEMORY, View.memory-view}

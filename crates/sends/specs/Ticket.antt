@@ -3,7 +3,7 @@ use Rattle.lists.specs.Basics.{Bool, true, false, cond, List, [], _∷_, _++_, 
 use Rattle.lists.specs.Map.{upd}
 use Rattle.arrays.specs.Front.{push}
 use Rattle.protocol.specs.{declared.Message.Message, declared.Entry.Entry, declared.Packet.Packet, declared.Logged.Logged}
-use Rattle.protocol.specs.{declared.Content.the-variants.{Ask as ASK, Note as NOTE}, Parts.{Memory, with-log, with-sn}, Tickets.filled, Sending.{about, local-entry}}
+use Rattle.protocol.specs.{declared.Content.the-variants.{Ask as ASK, Note as NOTE}, Parts.Memory, Setters.{with-log, with-sn}, Tickets.filled, Sending.{about, local-entry}}
 use Rattle.sends.specs.{declared.ticket.Ticket.Ticket, declared.ticket.Ticket.the-variants.{Remote, Found, New, TooHigh}}
 
 -- no SN or TN passes 60,000

@@ -1,7 +1,7 @@
 -- An entry worked where the store stands: the four words written, the sends made; or the four words written back.
 use Rattle.lists.specs.Basics.{_≡_, sym, ap, _∙_, List, some, ℕ, _-_, _+_, _%_, _<_, _≤_, arith, length}
 use Rattle.lists.specs.Questions.{first-no}
-use Rattle.protocol.specs.{declared.Answer.the-variants.{Accepted, Refused}, declared.Entry.Entry, Parts.{Memory, with-memory}, Work.{receivers, sent-value}}
+use Rattle.protocol.specs.{declared.Answer.the-variants.{Accepted, Refused}, declared.Entry.Entry, Parts.Memory, Setters.with-memory, Work.{ports, receivers, sent-value}}
 use Rattle.protocol.specs.{Working.{work-entry, worked-only, receivers-of, value-out, hops-out}}
 use Rattle.words.specs.Part.{part, put, part-length, part-put, put-again, put-same}
 use Rattle.memory.specs.{declared.Numbers.Numbers, Places.MEMORY, Numbers.{taken, given, with-numbers, give-back, numbers-given}, View.memory-view}
@@ -18,7 +18,7 @@ module _ (xs : List ℕ) (size : length xs ≡ STORE) (c : ℕ) (c-in : c < 13) 
   own : NumbersOf (view xs .live c) (e .sender) old
   own = rw (took, live-at xs c c-in) (numbers-taken was (e .sender) e-in)
 
-  answered : w .answer ≡ first-no 6 (own-questions (view xs .live c) e)
+  answered : w .answer ≡ first-no (own-questions (view xs .live c) e)
   answered = did .answer (view xs .live c) own
 
   pub not-worked : (w .answer ≡ 0 → ⊥) → Framed xs xs (Refused (w .answer)) (tried-work (view xs) c (some e))
@@ -41,8 +41,8 @@ module _ (xs : List ℕ) (size : length xs ≡ STORE) (c : ℕ) (c-in : c < 13) 
         ∙ ap (with-memory (view xs) c) worked-is
 
     -- zs is the store with the sends made or refused
-    module _ (zs : List ℕ) (v n : ℕ) (v-is : v ≡ w .numbers .state % 65536) (m : Made ws zs c (receivers (view ws .job) c (e .hops)) v (e .hops - 1) n) where
-      passed : tried-work (view xs) c (some e) ≡ tried-sends (view xs) (view ws) c (receivers (view ws .job) c (e .hops)) v (e .hops - 1)
+    module _ (zs : List ℕ) (v n : ℕ) (v-is : v ≡ w .numbers .state % 65536) (m : Made ws zs c (receivers (ports (view ws .job)) c (e .hops)) v (e .hops - 1) n) where
+      passed : tried-work (view xs) c (some e) ≡ tried-sends (view xs) (view ws) c (receivers (ports (view ws .job)) c (e .hops)) v (e .hops - 1)
       unfolding worked-only receivers-of value-out hops-out work-entry sent-value with-numbers
       passed =
           let value-is : v ≡ sent-value (work-entry (view xs .live c) e .state) = v-is ∙ ap (λ (m : Memory). m .state % 65536) worked-is in

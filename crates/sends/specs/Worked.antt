@@ -1,6 +1,6 @@
 -- An entry's message worked on the four words of a memory, and the first question that refuses it.
 use Rattle.lists.specs.Basics.{_≡_, sym, _∙_, true, false, _&&_, List, [], _∷_, ℕ, _+_, _%_, _<_, _≤_, arith, le-leb, lt-leb, leb}
-use Rattle.lists.specs.Questions.{first-no}
+use Rattle.lists.specs.Questions.{_asks_, first-no}
 use Rattle.protocol.specs.{declared.Entry.Entry, Parts.Memory, Work.work, Working.work-entry, Questions.mark-after}
 use Rattle.window.specs.{declared.Slid.Slid, Bits.{bits, TakenIn}}
 use Rattle.memory.specs.{declared.Numbers.Numbers, Numbers.{taken, with-numbers}, View.{memory-view, state-at, height-at, mark-at, window-at}}
@@ -25,13 +25,13 @@ pub record Small (x : Numbers) : Type 0 where
 
 -- x are the words before
 pub record WorkedAs (x : Numbers) (e : Entry) (r : Worked) : Type 0 where
-  pub answer : (m : Memory) → NumbersOf m (e .sender) x → r .answer ≡ first-no 6 (own-questions m e)
+  pub answer : (m : Memory) → NumbersOf m (e .sender) x → r .answer ≡ first-no (own-questions m e)
   pub memory : (m : Memory) → NumbersOf m (e .sender) x → r .answer ≡ 0 → with-numbers m (e .sender) (r .numbers) ≡ work-entry m e
   pub small : r .answer ≡ 0 → Small (r .numbers)
 
 module _ (x : Numbers) (e : Entry) where
   -- an answer above 0
-  refused-as : (n : ℕ) → 0 < n → ((m : Memory) → NumbersOf m (e .sender) x → n ≡ first-no 6 (own-questions m e)) → WorkedAs x e (record { answer = n; numbers = x })
+  refused-as : (n : ℕ) → 0 < n → ((m : Memory) → NumbersOf m (e .sender) x → n ≡ first-no (own-questions m e)) → WorkedAs x e (record { answer = n; numbers = x })
   refused-as n p q = record { answer = q; memory = λ m is z. absurd (omega arith); small = λ z. absurd (omega arith) }
 
   pub not-ready : (e .received && e .noted) ≡ false → WorkedAs x e (record { answer = 6; numbers = x })
@@ -48,7 +48,7 @@ module _ (x : Numbers) (e : Entry) where
 
     -- k is the mark, and d the mark and the window that the entry's SN leaves
     module _ (low : h < 60000) (k : ℕ) (k-is : k ≡ x .mark % 65536) (d : Slid) (takes : TakenIn k (x .window) (e .sn) d) where
-      asked : (m : Memory) → NumbersOf m (e .sender) x → first-no 6 (own-questions m e) ≡ first-no 7 (leb (d .mark) 60000 ∷ [])
+      asked : (m : Memory) → NumbersOf m (e .sender) x → first-no (own-questions m e) ≡ first-no (7 asks leb (d .mark) 60000 ∷ [])
       unfolding first-no own-questions mark-after
       asked m is =
           let q : m .height + 1 ≤ 60000 = omega (arith, is .height) in

@@ -14,7 +14,7 @@ ghost use lib.ListN.{length};
 ghost use Rattle.lists.specs.Questions.{first-no};
 ghost use Rattle.protocol.specs.Questions.{inject-questions, work-questions};
 ghost use Rattle.protocol.specs.Sending.{send};
-ghost use Rattle.protocol.specs.Work.{receivers};
+ghost use Rattle.protocol.specs.Work.{ports, receivers};
 ghost use Rattle.protocol.specs.Working.{next-entry};
 ghost use Rattle.tickets.specs.Table.{found-entry};
 ghost use Rattle.memory.specs.Places.{MEMORY};
@@ -137,7 +137,7 @@ fn send_two(s: &mut [u64], a: u8, b: u8, d: u8, value: u16, hops: u8) -> u8
 fn send_all(s: &mut [u64], c: u8, value: u16, hops: u8) -> u8
     requires { ⌜ length (now s) ≡ STORE ⌝ }
     requires { ⌜ (c < 13) × (hops < 8) ⌝ }
-    ensures { λ r. ⌜ Made (now (s .entry)) (now (s .exit)) c (receivers (view (now (s .entry)) .job) c hops) value (hops - 1) r ⌝ }
+    ensures { λ r. ⌜ Made (now (s .entry)) (now (s .exit)) c (receivers (ports (view (now (s .entry)) .job)) c hops) value (hops - 1) r ⌝ }
 {
     if hops == 0 {
         return 0;
@@ -211,10 +211,10 @@ pub fn work(s: &mut [u64], chare: u8) -> Answer
     }
 }
 
-// The questions 2 to 5 of an inject: the first that is answered "no", or 0. 5 is not put, nor is 6.
+// The questions 2 to 4 of an inject: the first that is answered "no", or 0. 5 and 6 are not put.
 fn judge_inject(s: &[u64], chare: u8, hops: u8) -> u8
     requires { ⌜ length (now s) ≡ STORE ⌝ }
-    ensures { λ r. ⌜ r ≡ first-no 2 (desk-questions (view (now (s .entry))) chare hops) ⌝ }
+    ensures { λ r. ⌜ r ≡ first-no (desk-questions (view (now (s .entry))) chare hops) ⌝ }
 {
     let in_range = both(head::is_chare(s, chare), hops <= 7);
     head::first_no(head::is_set(s), in_range, head::is_lost(s), true)

@@ -2,7 +2,7 @@
 ghost use mathlib.Core.Path.{_≡_};
 ghost use Prim.Native.Nat.{_<_};
 ghost use lib.ListN.{length};
-ghost use Rattle.protocol.specs.Parts.{with-table};
+ghost use Rattle.protocol.specs.Setters.{with-table};
 ghost use Rattle.memory.specs.Places.{MEMORY};
 ghost use Rattle.memory.specs.View.{memory-view};
 ghost use Rattle.sends.specs.Ticket.{fits, growth, tn-of, to-table};

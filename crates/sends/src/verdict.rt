@@ -5,7 +5,7 @@ ghost use mathlib.Core.List.{[], _∷_};
 ghost use Prim.Native.Nat.{_<_};
 ghost use lib.Dec.{leb};
 ghost use Rattle.sends.specs.Sends.{one-verdict, two-verdict};
-ghost use Rattle.lists.specs.Questions.{first-no};
+ghost use Rattle.lists.specs.Questions.{_asks_, first-no};
 use crate::plan::Plan;
 use crate::ticket::fits;
 use crate::ticket::growth;
@@ -18,7 +18,7 @@ pub fn both(a: bool, b: bool) -> bool
 
 // The questions 7 to 11 of a work: the first that is answered "no", or 0.
 fn answer(fits: bool, admits: bool, log: u8, room: bool, wire: u8) -> u8
-    ensures { λ r. ⌜ r ≡ first-no 7 (fits ∷ admits ∷ leb log 16 ∷ room ∷ leb wire 128 ∷ []) ⌝ }
+    ensures { λ r. ⌜ r ≡ first-no (7 asks fits ∷ 8 asks admits ∷ 9 asks leb log 16 ∷ 10 asks room ∷ 11 asks leb wire 128 ∷ []) ⌝ }
 {
     if !fits {
         return 7;

@@ -2,7 +2,8 @@
 use Rattle.lists.specs.Basics.{_≡_, refl, sym, ap, _∙_, cond, List, ℕ, _+_, _≤_, arith, ne-eqb, length}
 use Rattle.lists.specs.{Tests.either, Map.upd}
 use Rattle.arrays.specs.ArrayMap.{map-beyond}
-use Rattle.protocol.specs.Parts.{State, on, at-home, with-status}
+use Rattle.protocol.specs.Parts.{State, on, at-home}
+use Rattle.protocol.specs.Setters.{with-status}
 use Rattle.words.specs.Part.{part, part-length}
 use Rattle.head.specs.{Head.{TARGET, target-of}, HeadLaws.home-desk}
 use Rattle.store.specs.{Places.STORE, View.view, Visits.{chosen, visited, visit-none, visit-hit, visit-miss, visit-all}}

@@ -2,8 +2,9 @@
 ghost use mathlib.Core.Path.{_≡_};
 ghost use Prim.Native.Nat.{_≤_, _<_};
 ghost use lib.ListN.{length};
-ghost use Rattle.lists.specs.Questions.{asks};
-ghost use Rattle.protocol.specs.Parts.{with-status, at-home, is-catching-up};
+ghost use Rattle.lists.specs.Questions.{put-all};
+ghost use Rattle.protocol.specs.Setters.{with-status};
+ghost use Rattle.protocol.specs.Parts.{at-home, is-catching-up};
 ghost use Rattle.protocol.specs.Questions.{show-questions};
 ghost use Rattle.protocol.specs.Restart.{has-caught-up, is-done, settle-machine, settle};
 ghost use Rattle.protocol.specs.Step.{judged};
@@ -105,15 +106,18 @@ pub fn settle(s: &mut [u64])
     requires { ⌜ length (now s) ≡ STORE ⌝ }
     ensures { λ _. ⌜ view (now (s .exit)) ≡ settle (view (now (s .entry))) ⌝ }
 {
-    for p in 1..=6 {
+    let last = head::machines(s);
+    let mut p = 1;
+    while p <= last {
         settle_machine(s, p);
+        p += 1;
     }
 }
 
 // Frame 16.
 pub fn show(s: &[u64], c: u8) -> Answer
     requires { ⌜ length (now s) ≡ STORE ⌝ }
-    ensures { λ r. ⌜ outcome (now (s .entry)) r ≡ judged (view (now (s .entry))) (asks 2 (show-questions (view (now (s .entry))) c) (shown (view (now (s .entry))) c)) ⌝ }
+    ensures { λ r. ⌜ outcome (now (s .entry)) r ≡ judged (view (now (s .entry))) (put-all (show-questions (view (now (s .entry))) c) (shown (view (now (s .entry))) c)) ⌝ }
 {
     let no = head::judge_chare(s, c);
     if no != 0 {

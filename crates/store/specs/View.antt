@@ -1,6 +1,6 @@
 -- A store of words as a state of the definitions: the head, 13 memories, 13 copies, 7 note lists, the wire. Any words are a state.
 use Rattle.lists.specs.Basics.{_≡_, Bool, List, ℕ}
-use Rattle.lists.specs.Questions.{asks}
+use Rattle.lists.specs.Questions.{Question, put-all}
 use Rattle.protocol.specs.{declared.Answer.Answer, declared.Answer.the-variants.{Accepted, Refused}, Parts.State, Step.{Outcome, judged}}
 use Rattle.words.specs.{Part.part, Slots.slots}
 use Rattle.head.specs.Head.{job-of, lost-of, status-of, held-of, target-of}
@@ -26,8 +26,8 @@ unfoldable pub outcome : List ℕ → Answer → Outcome
 outcome xs a = record { state = view xs; answer = a }
 
 -- the questions are put to s; if all are answered "yes", t is the state
-unfoldable pub tried : State → List Bool → State → Outcome
-tried s questions t = judged s (asks 2 questions (record { state = t; answer = Accepted }))
+unfoldable pub tried : State → List Question → State → Outcome
+tried s questions t = judged s (put-all questions (record { state = t; answer = Accepted }))
 
 -- A frame in place: state and answer are those of the outcome o, and a refusal leaves every word as it was.
 pub record Framed (before after : List ℕ) (a : Answer) (o : Outcome) : Type 0 where

@@ -1,7 +1,7 @@
 -- A part of the store put anew changes that part of the view, and no other. All arithmetic on places is here.
 use Rattle.lists.specs.Basics.{_≡_, refl, sym, ap, _∙_, Bool, List, inl, ℕ, _+_, _<_, arith, eqb, length, set}
 use Rattle.lists.specs.Map.{upd}
-use Rattle.protocol.specs.{declared.Status.Status, Parts.{Job, State, Memory, with-lost, with-status, with-memory, with-copies, with-notes, with-wire}}
+use Rattle.protocol.specs.{declared.Status.Status, Parts.{Job, State, Memory}, Setters.{with-lost, with-status, with-memory, with-copies, with-notes, with-wire}}
 use Rattle.words.specs.{Part.{part, put, put-length, part-length, part-put, part-behind}, PartSet.part-set-before, Copy.Apart}
 use Rattle.words.specs.{Slots.{slots, slot-here, slots-before, slots-behind, slots-put, slots-set}}
 use Rattle.head.specs.{Head.{HEAD, LOST, STATUS, HELD, TARGET, job-of, lost-of, status-of, held-of, target-of, as-status}, Kept.{Says, head-kept, head-put}}

@@ -2,7 +2,7 @@
 use Rattle.lists.specs.Basics.{_≡_, sym, _∙_, fun-ext, Bool, true, false, cond, List, [], inl, inr, ℕ, _+_, _<_, _≤_, arith, lt-ltb, le-ltb, ltb, eqb, length, set, length-set}
 use Rattle.lists.specs.{Tests.{either, lt?}, Map.{upd, upd-ind, upd-self}}
 use Rattle.arrays.specs.ArrayMap.{as-map}
-use Rattle.protocol.specs.{declared.Note.Note, Parts.{blank, with-copies}}
+use Rattle.protocol.specs.{declared.Note.Note, Parts.blank, Setters.with-copies}
 use Rattle.window.specs.BitLaws.{no-bits}
 use Rattle.words.specs.{Part.put, Rows.row, Slots.slots}
 use Rattle.head.specs.Head.{HELD}

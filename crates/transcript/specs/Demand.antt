@@ -2,19 +2,19 @@
 use Rattle.lists.specs.Basics.{_≡_, refl, ap, _∙_, true, cond, List, [], _∷_, _++_, ℕ, eqb}
 use Rattle.lists.specs.Tests.{either}
 use Rattle.protocol.specs.{Parts.{State, start}, Frames.Line, Lines.{newline, lines}, Step.{Outcome, step, run}}
-use Rattle.protocol.specs.{Demand3.{Quiet, Agrees, Begins, state-after, history-after}, Recovery.Theorem.demand3}
+use Rattle.protocol.specs.{History.{state-after, history-after}, Demand3.{Quiet, Agrees, Begins}, Recovery.Theorem.demand3}
 use Rattle.transcript.specs.{Reading.{within, beginning, read-all, is-empty, finishes, end-state}}
 use Rattle.transcript.specs.{Pieces.{continued, continued-nothing, continued-hit, continued-miss, kept-step, kept-empty, ends-state, goes-on}}
 
 -- one crash-free run has the state's chares, sequences and unworked messages, and every earlier quiet moment's sequences begin them
 pub record Recovered (s : State) (moment : List Line) : Type 0 where
   pub agrees : Agrees s (history-after moment)
-  pub begins : (earlier since : List Line) → earlier ++ since ≡ moment → Quiet (state-after earlier) → Begins earlier moment
+  pub begins : (earlier since : List Line) → earlier ++ since ≡ moment → Quiet earlier → Begins earlier moment
 
--- the state after some lines, and, if it is quiet, demand 3
+-- the state after some lines, and, if the moment is quiet, demand 3
 pub record After (moment : List Line) (s : State) : Type 0 where
   pub is : s ≡ state-after moment
-  pub recovers : Quiet s → Recovered s moment
+  pub recovers : Quiet moment → Recovered s moment
 
 pub after : (moment : List Line) (s : State) → s ≡ state-after moment → After moment s
 after moment s e = rw e (record { is = refl; recovers = λ q. let h = demand3 moment q in record { agrees = h .agrees; begins = h .begins } })

@@ -24,6 +24,7 @@ hold-requires c κs =
     (search needs, omega arith)
 
 returns-2 : tie.Need-returns-2
+unfolding checkpoint-questions
 returns-2 c =
     let k = c .before .before in
     let l = k .before .before .before in
@@ -32,7 +33,7 @@ returns-2 c =
     let x = f .before .before in
     let j = x .before in
     let st = j .before .before .before in
-    accepted (st .args .s .now) _ _ (j .judge .ensures) (k .clean .last .0) _ (search needs)
+    accepted (st .args .s .now) _ _ (j .judge .ensures) refl (k .clean .last .0) _ (search needs)
     (checkpoint-is _ (view (f .fix .last .0)) (view (h .hold .last .0)) _ (st .args .p) (as-map 0 (l .limits .result)) (f .fix .ensures) (h .hold .ensures) (l .limits .ensures) (k .clean .ensures))
 
 pub checkpoint-spec : {M : Type 1} → statement M

@@ -2,7 +2,7 @@
 use Rattle.lists.specs.Basics.{_≡_, sym, ap, _∙_, _+_, _-_, _*_, _≤_, arith, needs, length}
 use Rattle.arrays.specs.ArrayMap.{as-map}
 use Rattle.memory.specs.Places.{MEMORY}
-use Rattle.protocol.specs.Parts.{with-live}
+use Rattle.protocol.specs.Setters.{with-live}
 use Rattle.store.specs.{Places.{STORE, LIVE}, View.view, Visits.visit-none}
 use Rattle.checkpoint.specs.Cleaning.{cleaned-to, clean-miss, clean-hit, clean-end}
 use Rattle.checkpoint.proofs.clean.Statement.{statement}

@@ -1,7 +1,7 @@
 -- `crash::lose_live` meets its contract: the chares below n are done.
 use Rattle.lists.specs.Basics.{_≡_, sym, ap, _∙_, _+_, _-_, _*_, _≤_, arith, needs, length}
 use Rattle.memory.specs.Places.{MEMORY}
-use Rattle.protocol.specs.Parts.{with-live}
+use Rattle.protocol.specs.Setters.{with-live}
 use Rattle.store.specs.{Places.{STORE, LIVE}, View.view, Visits.visit-none}
 use Rattle.crash.specs.Memories.{live-to, live-miss, live-hit, live-end}
 use Rattle.crash.proofs.lose_live.Statement.{statement}

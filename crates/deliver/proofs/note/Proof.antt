@@ -1,6 +1,6 @@
 -- `note`: present, no room, or stored.
 use Rattle.lists.specs.Basics.{_≡_, refl, sym, _∙_, _-_, _<_, arith, needs, length, lt-ltb, le-ltb}
-use Rattle.lists.specs.Questions.{asks}
+use Rattle.lists.specs.Questions.{put-all}
 use Rattle.arrays.specs.Front.{push-fits}
 use Rattle.protocol.specs.{Parts.note-room, Packets.note-of}
 use Rattle.notelist.specs.{Notes.notes, Fits.fitted-same}
@@ -9,18 +9,18 @@ use Rattle.deliver.proofs.note.Statement.{statement}
 use Rattle.deliver.proofs.note.Tie as tie
 
 returns : tie.Need-returns
-unfolding note-of note-questions note-effect asks
+unfolding note-of note-questions note-effect put-all
 returns c = passes 0 refl (rw (sym (c .before .has .ensures) ∙ c .if1 .taken))
 
 returns-2 : tie.Need-returns-2
-unfolding note-of note-questions note-effect asks
+unfolding note-of note-questions note-effect put-all
 returns-2 c =
     let n = c .before in
     let x = n .before .before in
     stops 10 (λ e. omega arith) (rw (sym (x .before .has .ensures) ∙ x .if1 .left, ← n .count .ensures, le-ltb (n .count .result) note-room (omega arith))) refl
 
 returns-3 : tie.Need-returns-3
-unfolding note-of note-questions note-effect asks
+unfolding note-of note-questions note-effect put-all
 returns-3 c =
     let u = c .before .before in
     let n = u .before .before .before in

@@ -4,6 +4,7 @@ use Rattle.lists.specs.Lists.{allb}
 use Rattle.protocol.specs.Parts.{every-machine}
 use Rattle.frames.specs.Decode.{decoded}
 use Rattle.jobline.specs.Passes.{buddies-in-range, buddy-passes}
+use Rattle.lists.specs.Counting.{counting}
 use Rattle.arrays.specs.Loops.{each, each-hit, each-miss, each-end, allb-keep}
 use Rattle.jobline.proofs.buddies_in_range.Statement.{statement}
 use Rattle.jobline.proofs.buddies_in_range.Tie as tie
@@ -15,7 +16,7 @@ abbrev μ-loop : tie.MeasureT-loop
 μ-loop line p₀ p = 7 - p
 
 loop-holds : tie.Need-loop-holds Inv-loop μ-loop
-unfolding buddies-in-range buddy-passes allb each every-machine
+unfolding buddies-in-range buddy-passes allb counting every-machine
 loop-holds c = (search needs, search needs, allb-keep _ _ every-machine)
 
 returns : tie.Need-returns Inv-loop μ-loop

@@ -4,6 +4,7 @@ use Rattle.lists.specs.Lists.{allb}
 use Rattle.protocol.specs.Parts.{every-chare}
 use Rattle.frames.specs.Decode.{decoded}
 use Rattle.jobline.specs.Passes.{chares-in-range, chare-passes}
+use Rattle.lists.specs.Counting.{counting}
 use Rattle.arrays.specs.Loops.{each, each-hit, each-miss, each-end, allb-keep}
 use Rattle.jobline.proofs.chares_in_range.Statement.{statement}
 use Rattle.jobline.proofs.chares_in_range.Tie as tie
@@ -15,7 +16,7 @@ abbrev μ-loop : tie.MeasureT-loop
 μ-loop line c₀ c = 13 - c
 
 loop-holds : tie.Need-loop-holds Inv-loop μ-loop
-unfolding chares-in-range chare-passes allb each every-chare
+unfolding chares-in-range chare-passes allb counting every-chare
 loop-holds c = (search needs, search needs, allb-keep _ _ every-chare)
 
 returns : tie.Need-returns Inv-loop μ-loop

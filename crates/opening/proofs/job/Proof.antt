@@ -1,23 +1,23 @@
 -- `opening::job` meets its contract: refused at the first "no", or begun.
 use Rattle.lists.specs.Basics.{sym, _∙_, needs, not-true, not-false}
-use Rattle.lists.specs.Questions.{asks}
+use Rattle.lists.specs.Questions.{put-all}
 use Rattle.protocol.specs.{Questions.job-questions, Step.judged}
 use Rattle.store.specs.{View.{view, tried, outcome}, Framing.{refuses, accepts}}
 use Rattle.opening.proofs.job.Statement.{statement}
 use Rattle.opening.proofs.job.Tie as tie
 
 returns : tie.Need-returns
-unfolding tried judged asks job-questions view
+unfolding tried judged put-all job-questions view
 returns c = refuses _ 2 (rw (sym (c .before .is-set .ensures) ∙ c .if1 .taken))
 
 returns-2 : tie.Need-returns-2
-unfolding tried judged asks job-questions view
+unfolding tried judged put-all job-questions view
 returns-2 c =
     let e = c .before .before in
     refuses _ 3 (rw (sym (e .before .is-set .ensures) ∙ e .if1 .left, sym (c .before .job-in-range .ensures) ∙ not-true _ (c .if2 .taken)))
 
 returns-3 : tie.Need-returns-3
-unfolding tried judged asks job-questions view
+unfolding tried judged put-all job-questions view
 returns-3 c =
     let f = c .before .before .before in
     let e = f .before .before in
@@ -30,7 +30,7 @@ begin-requires c κs =
     (search needs, sym (f .before .job-in-range .ensures) ∙ not-false _ (f .if2 .left))
 
 returns-4 : tie.Need-returns-4
-unfolding tried judged asks job-questions outcome view
+unfolding tried judged put-all job-questions outcome view
 returns-4 c =
     let g = c .before .before .before .before in
     let f = g .before .before .before in

@@ -1,7 +1,7 @@
 use Rattle.lists.specs.Basics.{_∙_, needs}
 use Rattle.protocol.specs.Questions.{is-chare}
 use Rattle.store.specs.View.{view}
-use Rattle.sends.specs.Inject.{desk-questions}
+use Rattle.sends.specs.Inject.{desk-questions, not-put}
 use Rattle.sends.proofs.judge_inject.Statement.{statement}
 use Rattle.sends.proofs.judge_inject.Tie as tie
 
@@ -11,7 +11,7 @@ returns c =
     let l = c .before in
     let j = l .before in
     let b = j .before in
-    c .first-no .ensures ∙ rw (j .is-set .ensures, b .both .ensures, b .before .is-chare .ensures, l .is-lost .ensures)
+    c .first-no .ensures ∙ not-put _ _ _ ∙ rw (j .is-set .ensures, b .both .ensures, b .before .is-chare .ensures, l .is-lost .ensures)
 
 pub judge-inject-spec : {M : Type 1} → statement M
 judge-inject-spec =

@@ -2,6 +2,7 @@
 use Rattle.lists.specs.Basics.{_≡_, sym, _∙_, _-_, _≤_, arith, needs, not-true, not-false}
 use Rattle.lists.specs.Lists.{allb}
 use Rattle.protocol.specs.{Parts.every-chare, Restart.is-done}
+use Rattle.lists.specs.Counting.{counting}
 use Rattle.arrays.specs.Loops.{each, each-hit, each-miss, each-end, allb-keep}
 use Rattle.store.specs.View.{view}
 use Rattle.settle.specs.Done.{passes}
@@ -19,7 +20,7 @@ unfolding is-done
 returns c = rw (sym (c .before .is-catching-up .ensures) ∙ not-true _ (c .if1 .taken))
 
 loop-holds : tie.Need-loop-holds Inv-loop μ-loop
-unfolding is-done passes allb each every-chare
+unfolding is-done passes allb counting every-chare
 loop-holds c = (search needs, search needs, rw (sym (c .before .is-catching-up .ensures) ∙ not-false _ (c .if1 .left)) (allb-keep _ _ every-chare))
 
 returns-2 : tie.Need-returns-2 Inv-loop μ-loop

@@ -1,13 +1,13 @@
 -- `ask`: an entry found, the SN worked, a refusal, or a new ticket.
 use Rattle.lists.specs.Basics.{none, _≡_, refl, sym, ap, _∙_, false, _-_, _<_, arith, mod-eq-of-lt, lt-leb, le-leb, lt-ltb, le-ltb, needs, not-true, not-false, length}
-use Rattle.lists.specs.Questions.{ok, asks}
+use Rattle.lists.specs.Questions.{ok, put-all}
 use Rattle.arrays.specs.Front.{push}
 use Rattle.protocol.specs.{Parts.{Memory, most, table-room}, Packets.is-worked, Window.worked}
 use Rattle.protocol.specs.{Tickets.{entry, next-tn, new-tn, unreceived}, declared.Content.the-variants.GrantNew as GRANT-new}
 use Rattle.words.specs.Part.{part, part-length}
 use Rattle.tickets.specs.Table.{found-entry}
 use Rattle.memory.specs.{Places.{TABLE, ROW}, View.{memory-view, table-part, table-changed}}
-use Rattle.deliver.specs.{Effect.{answering, ask-questions, ask-effect, no-questions, ask-new, entered}}
+use Rattle.deliver.specs.{Effect.{answering, ask-questions, ask-effect, ask-new, entered}}
 use Rattle.deliver.specs.{View.{effect-of, reply-of, replying, refusing}}
 use Rattle.deliver.proofs.arrive.ask.Statement.{statement}
 use Rattle.deliver.proofs.arrive.ask.Tie as tie
@@ -73,7 +73,7 @@ same-length : tie.Need-same-length
 same-length c = search needs
 
 returns : tie.Need-returns
-unfolding effect-of reply-of found-entry ask-questions ask-effect asks no-questions
+unfolding effect-of reply-of found-entry ask-questions ask-effect put-all
 returns c =
     let f = c .before .before .before in
     let k = f .before .before in
@@ -100,7 +100,7 @@ same-length-2 : tie.Need-same-length-2
 same-length-2 c = search needs
 
 returns-2 : tie.Need-returns-2
-unfolding effect-of reply-of ask-questions ask-effect asks no-questions
+unfolding effect-of reply-of ask-questions ask-effect put-all
 returns-2 c =
     let w = c .before .before in
     replying (start-of w .args .m .now) _ _ _ (c .replied2 .ensures) (rw (no-entry w, sym (worked-at w) ∙ c .before .if1 .taken))
@@ -130,7 +130,7 @@ same-length-3 : tie.Need-same-length-3
 same-length-3 c = search needs
 
 returns-3 : tie.Need-returns-3
-unfolding asks
+unfolding put-all
 returns-3 c =
     let t = c .before .before in
     let w = worked-of t in
@@ -147,7 +147,7 @@ same-length-4 : tie.Need-same-length-4
 same-length-4 c = search needs
 
 returns-4 : tie.Need-returns-4
-unfolding asks
+unfolding put-all
 returns-4 c =
     let d = c .before .before in
     let t = d .before .before in
@@ -175,7 +175,7 @@ same-length-5 : tie.Need-same-length-5
 same-length-5 c = search needs
 
 returns-5 : tie.Need-returns-5
-unfolding asks
+unfolding put-all
 returns-5 c =
     let n = c .before .before in
     let d = n .before .before .before .before in
@@ -208,7 +208,7 @@ same-length-6 : tie.Need-same-length-6
 same-length-6 c = search needs
 
 returns-6 : tie.Need-returns-6
-unfolding effect-of reply-of asks
+unfolding effect-of reply-of put-all
 returns-6 c =
     let x = c .before .before .before in
     let g = x .before .before in
