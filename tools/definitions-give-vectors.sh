@@ -21,7 +21,7 @@ for in in "$dir"/*.in; do
   wanted=$(quoted "$dir/$n.out")
   cat >"$specs/V$n.antt" <<T
 use mathlib.Core.Path.{_≡_, refl}
-use Rattle.protocol.specs.Computing.{text, opened}
+use Rattle.protocol.specs.Cases.Computing.{text, opened}
 use Rattle.protocol.specs.Step.{answers}
 
 list : answers (text "$given") ≡ text "$wanted"

@@ -3,7 +3,7 @@
 set -euo pipefail
 cd "$(dirname "$0")/.."
 lines() { find "$@" -print0 | xargs -0 cat | wc -l; }
-echo "definitions of the rule book:        $(lines crates/protocol/specs -maxdepth 1 -name '*.antt')"
+echo "definitions of the rule book:        $(lines crates/protocol/specs crates/protocol/specs/Cases -maxdepth 1 -name '*.antt')"
 echo "proof of demand 3:                   $(lines crates/protocol/specs/Recovery -name '*.antt')"
 echo "claims of document 02, with proofs:  $(lines crates/protocol/specs/Changes -name '*.antt')"
 echo "laws of lists, maps and questions:   $(lines crates/lists/specs -name '*.antt')"

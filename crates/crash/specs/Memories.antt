@@ -20,7 +20,7 @@ zeros-blank = λ i. record {
   sn = map-blank 0 16 i;
   mark = map-blank 0 16 i;
   window = (ap (λ f s. bits (f s)) (map-blank 0 16) ∙ ap (λ b (s : ℕ). b) no-bits) i;
-  top = 0;
+  highest-at-restart = 0;
   table = [];
   log = [];
 }

@@ -5,7 +5,7 @@ use Rattle.protocol.specs.{declared.Entry.Entry, declared.Message.Message, decl
 use Rattle.protocol.specs.{declared.Content.the-variants.{Ask as ASK, GrantOld as GRANT-old, GrantReceived as GRANT-received, GrantNew as GRANT-new, Data as DATA, Note as NOTE, Ack as ACK}}
 use Rattle.protocol.specs.{declared.Lookup.Lookup, declared.Lookup.the-variants.{Missing, Ticketed, Unticketed}, Parts.State, Setters.{with-live, with-memory, with-notes}}
 use Rattle.protocol.specs.{Packets.{kind, is-worked, reply, new-table, new-log, ask, grant-old, grant-received, grant-new, data-in, ack, entry-of, lookup-of, arrive}}
-use Rattle.protocol.specs.{Packets.{tn-of, note-of, is-noted}, Questions.{no-entry, needs-ticket, needs-note, ticket-fits, ticket-admitted, ticket-has-room, packet-questions}}
+use Rattle.protocol.specs.{Packets.{tn-of, note-of, has-note}, Questions.{no-entry, needs-ticket, needs-note, ticket-fits, ticket-admitted, ticket-has-room, packet-questions}}
 use Rattle.deliver.specs.{Effect.{Effect, quiet, grant-of, new-ticket, ask-effect, ask-questions, unticketed}}
 use Rattle.deliver.specs.{Effect.{grant-old-effect, grant-received-effect, grant-new-effect, data-effect, ack-effect, effect, effect-questions, place-of}}
 use Rattle.deliver.specs.NoteEffect.{note-questions}
@@ -83,4 +83,4 @@ module _ (s : State) (p : Packet) where
     pub note-questioned : {t : ℕ} → p .content ≡ NOTE t
         → put-all (packet-questions s (some p)) r ≡ put-all (note-questions (s .notes (s .job .home (p .receiver))) (note-of p t)) r
     unfolding packet-questions ticket-fits ticket-admitted ticket-has-room needs-ticket needs-note kind tn-of note-of note-questions put-all
-    note-questioned {t} k = either (is-noted (s .notes (s .job .home (p .receiver))) (note-of p t)) (λ q. rw (k, q)) (λ q. rw (k, q))
+    note-questioned {t} k = either (has-note (s .notes (s .job .home (p .receiver))) (note-of p t)) (λ q. rw (k, q)) (λ q. rw (k, q))

@@ -1,7 +1,8 @@
 -- Frame 11 as a whole: its questions before the packet is sought, the state after it, and what becomes of a packet found.
 use Rattle.lists.specs.Basics.{Bool, not, _&&_, List, [], _∷_, Option, some, none, ℕ, _<_, leb, length}
 use Rattle.lists.specs.Questions.{Question, _asks_, Result, refuse, ok, put-all}
-use Rattle.protocol.specs.{declared.Answer.the-variants.Accepted, declared.Packet.Packet, declared.Status.Status, Parts.{Job, State, most}, Setters.with-wire, Frames.between}
+use Rattle.protocol.specs.{declared.Answer.the-variants.Accepted, declared.Packet.Packet, declared.Status.Status, Parts.{Job, State, number-limit}, Setters.with-wire}
+use Rattle.protocol.specs.{Frames.between}
 use Rattle.protocol.specs.{Packets.{destination, deliver, note-of}, Step.{Outcome, judged}}
 use Rattle.words.specs.Rows.{without}
 use Rattle.head.specs.Head.{runs}
@@ -13,7 +14,7 @@ delivered s k a r n none = s
 delivered s k a r n (some p) = deliver s k a r n p
 
 unfoldable pub in-range : Job → ℕ → ℕ → ℕ → ℕ → Bool
-in-range j k a r n = between 1 5 k && leb a (j .chares) && between 1 (j .chares) r && between 1 most n
+in-range j k a r n = between 1 5 k && leb a (j .chares) && between 1 (j .chares) r && between 1 number-limit n
 
 -- questions 2 to 5
 unfoldable pub first-questions : Job → Bool → (ℕ → Status) → ℕ → ℕ → ℕ → ℕ → List Question

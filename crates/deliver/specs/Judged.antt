@@ -2,7 +2,7 @@
 use Rattle.lists.specs.Basics.{_≡_, refl, sym, ap, _∙_, true, false, List, [], _∷_, _++_, some, none, ℕ}
 use Rattle.lists.specs.{Lists.remove1, Questions.{Question, _asks_, put-all, first-no, first-no-yes, put-no, put-after}}
 use Rattle.protocol.specs.{declared.Answer.the-variants.Refused, declared.Packet.Packet, declared.Content.the-variants.Note as NOTE, Parts.{State, up}}
-use Rattle.protocol.specs.{Packets.{is-named, note, arrive, deliver}, Step.{Outcome, judged}}
+use Rattle.protocol.specs.{Packets.{is-named, store-note, arrive, deliver}, Step.{Outcome, judged}}
 use Rattle.protocol.specs.Questions.{is-chare, is-sender, on-wire, packet-questions, deliver-questions}
 use Rattle.words.specs.Rows.{without}
 use Rattle.head.specs.Head.{runs}
@@ -66,5 +66,5 @@ module _ (s : State) (k a r n : ℕ) where
 
       -- at the note list of the receiver's machine
       pub judged-note : {t : ℕ} → p .content ≡ NOTE t → note-outcome s at p t ≡ the-outcome
-      unfolding note-outcome arrive note put-notes note-effect
+      unfolding note-outcome arrive store-note put-notes note-effect
       judged-note is-note = by-part (put-notes (taken-off s at) (s .job .home (p .receiver)) p) _ _ (λ o. note-questioned s p o is-note) (rw is-note)

@@ -1,5 +1,5 @@
 -- A frame judged, then machines that have caught up settle.
-use Rattle.lists.specs.Basics.{_≡_, refl, Bool, true, false, cond, List, [], _∷_, ℕ, suc}
+use Rattle.lists.specs.Basics.{_≡_, refl, Bool, true, false, cond, List, [], _∷_}
 use Rattle.lists.specs.Questions.{Question, _asks_, put-all}
 use Rattle.protocol.specs.{declared.Answer.Answer, declared.Answer.the-variants.{Accepted, Shown, Lost, Refused}, Parts.State, Restart.settle, Step.{Outcome, judged}}
 

@@ -21,10 +21,10 @@ given ws s x = set (set (set (set ws STATE (x .state)) HEIGHT (x .height)) (MARK
 -- a memory with other maps, with another state and height, and with other numbers for the sender s
 module _ (m : Memory) where
   abbrev with-maps : (ℕ → ℕ) → (ℕ → ℕ) → (ℕ → ℕ → Bool) → Memory
-  with-maps sn mark window = record { state = m .state; height = m .height; sn = sn; mark = mark; window = window; top = m .top; table = m .table; log = m .log }
+  with-maps sn mark window = record { state = m .state; height = m .height; sn = sn; mark = mark; window = window; highest-at-restart = m .highest-at-restart; table = m .table; log = m .log }
 
   abbrev with-front : ℕ → ℕ → Memory
-  with-front state height = record { state = state; height = height; sn = m .sn; mark = m .mark; window = m .window; top = m .top; table = m .table; log = m .log }
+  with-front state height = record { state = state; height = height; sn = m .sn; mark = m .mark; window = m .window; highest-at-restart = m .highest-at-restart; table = m .table; log = m .log }
 
 unfoldable pub with-numbers : Memory → ℕ → Numbers → Memory
 with-numbers m s x = with-maps (with-front m (x .state) (x .height)) (m .sn) (upd s (x .mark) (m .mark)) (upd s (bits (x .window)) (m .window))

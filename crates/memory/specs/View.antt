@@ -16,7 +16,7 @@ memory-view ws = record {
   sn = as-map 0 (map (_% 65536) (part SN 16 ws));
   mark = as-map 0 (map (_% 65536) (part MARK 16 ws));
   window = λ s. bits (as-map 0 (part WINDOW 16 ws) s);
-  top = getD (part 0 NUMBERS ws) TOP 0 % 65536;
+  highest-at-restart = getD (part 0 NUMBERS ws) TOP 0 % 65536;
   table = tickets.entries (part TABLE ROW ws);
   log = logs.entries (part LOG ROW ws);
 }
@@ -39,7 +39,7 @@ module _ (ws : List ℕ) where
   unfolding memory-view
   height-at = rw (part-at 0 NUMBERS HEIGHT ws 0 (omega arith))
 
-  pub top-at : getD ws TOP 0 % 65536 ≡ memory-view ws .top
+  pub top-at : getD ws TOP 0 % 65536 ≡ memory-view ws .highest-at-restart
   unfolding memory-view
   top-at = rw (part-at 0 NUMBERS TOP ws 0 (omega arith))
 

@@ -44,7 +44,7 @@ pub fn height(m: &[u64]) -> u16
 
 pub fn top(m: &[u64]) -> u16
     requires { ⌜ length (now m) ≡ MEMORY ⌝ }
-    ensures { λ r. ⌜ r ≡ memory-view (now (m .entry)) .top ⌝ }
+    ensures { λ r. ⌜ r ≡ memory-view (now (m .entry)) .highest-at-restart ⌝ }
 {
     (m[TOP] % 65536) as u16
 }

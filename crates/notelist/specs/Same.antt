@@ -2,7 +2,7 @@
 use Rattle.lists.specs.Basics.{_≡_, sym, true, false, List, ℕ, _+_, _*_, _/_, _%_, _<_, arith, eqb-true, eq-eqb, eqb}
 use Rattle.lists.specs.Tests.{either, and4}
 use Rattle.arrays.specs.Place.{none-there}
-use Rattle.protocol.specs.{declared.Note.Note, Packets.{same-note, is-noted}}
+use Rattle.protocol.specs.{declared.Note.Note, Packets.{same-note, has-note}}
 use Rattle.words.specs.Rows.{PEER, OWNER, row}
 use Rattle.item.specs.{Item.{KIND, item-of}, Held.held-never}
 use Rattle.notelist.specs.Notes.{note-of, as-note, notes}
@@ -28,6 +28,6 @@ module _ (x : Note) (w : ℕ) where
   other-name d = differs (λ s r n t. d (omega arith))
 
 -- a note that no word can be is in no list
-pub nowhere : (x : Note) (ws : List ℕ) → ((w : ℕ) → same-note x (note-of w) ≡ false) → false ≡ is-noted (notes ws) x
-unfolding is-noted notes
+pub nowhere : (x : Note) (ws : List ℕ) → ((w : ℕ) → same-note x (note-of w) ≡ false) → false ≡ has-note (notes ws) x
+unfolding has-note notes
 nowhere x ws h = sym (none-there (same-note x) (notes ws) (held-never note-of (same-note x) h (row ws)))

@@ -4,7 +4,7 @@ ghost use mathlib.Core.List.{[]};
 ghost use Prim.Native.Nat.{_-_};
 ghost use lib.ListN.{length, getD};
 ghost use Rattle.arrays.specs.Front.{push as pushed};
-ghost use Rattle.protocol.specs.Packets.{is-noted};
+ghost use Rattle.protocol.specs.Packets.{has-note};
 ghost use Rattle.notelist.specs.Notes.{note-of, fitted, notes};
 use item::Item;
 use item::KIND;
@@ -54,7 +54,7 @@ pub fn at(ws: &[u64], i: usize) -> Note
 
 // The list has this note. SN, receiver and sender are a word's lowest fields: one remainder and the TN tell it. No word has a chare above 15.
 pub fn has(ws: &[u64], x: Note) -> bool
-    ensures { λ r. ⌜ r ≡ is-noted (notes (now (ws .entry))) x ⌝ }
+    ensures { λ r. ⌜ r ≡ has-note (notes (now (ws .entry))) x ⌝ }
 {
     if 16 <= x.receiver {
         return false;

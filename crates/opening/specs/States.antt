@@ -9,7 +9,7 @@ use Rattle.store.specs.{Places.{STORE, live-from, copy-from}, View.view, ViewLa
 use Rattle.settle.specs.Sweep.{front, above, front-start, front-put, front-end}
 
 abbrev pub with-state : Memory → ℕ → Memory
-with-state m v = record { state = v; height = m .height; sn = m .sn; mark = m .mark; window = m .window; top = m .top; table = m .table; log = m .log }
+with-state m v = record { state = v; height = m .height; sn = m .sn; mark = m .mark; window = m .window; highest-at-restart = m .highest-at-restart; table = m .table; log = m .log }
 
 pub state-set : (ws : List ℕ) (x : ℕ) → length ws ≡ MEMORY → x < 4294967296 → memory-view (set ws STATE x) ≡ with-state (memory-view ws) x
 unfolding memory-view

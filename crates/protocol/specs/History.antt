@@ -11,7 +11,7 @@ use Rattle.protocol.specs.declared.Answer.the-variants.{Accepted, Shown,
 use Rattle.protocol.specs.Parts.{State, start, at-home}
 use Rattle.protocol.specs.Working.{next-entry}
 use Rattle.protocol.specs.Frames.{Line, Frame, job, inject, deliver, work, checkpoint, crash, restart, show, frame}
-use Rattle.protocol.specs.Step.{step, run, answers-from}
+use Rattle.protocol.specs.Step.{step, play-all, answers-from}
 use Rattle.protocol.specs.CrashFree.{Injection}
 
 -- What a list has done so far: the accepted injections, each chare's sequence, and the sequence that stood when the copy of its
@@ -71,7 +71,7 @@ history-from s y (l ∷ ls) = history-from (step s l .state) (record-line s y l)
 
 -- "The list begins with no job, each frame gets what the last one left": state, answers and history after a list of lines
 unfoldable pub state-after : List Line → State
-state-after ls = run start ls
+state-after ls = play-all start ls
 
 unfoldable pub answers-after : List Line → List Answer
 answers-after ls = answers-from start ls

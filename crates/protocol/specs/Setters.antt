@@ -12,16 +12,16 @@ use Rattle.protocol.specs.Parts.{Memory, State}
 
 module _ (m : Memory) where
   abbrev pub with-table : List Entry → Memory
-  with-table v = record { state = m .state; height = m .height; sn = m .sn; mark = m .mark; window = m .window; top = m .top; table = v; log = m .log }
+  with-table v = record { state = m .state; height = m .height; sn = m .sn; mark = m .mark; window = m .window; highest-at-restart = m .highest-at-restart; table = v; log = m .log }
 
   abbrev pub with-log : List Logged → Memory
-  with-log v = record { state = m .state; height = m .height; sn = m .sn; mark = m .mark; window = m .window; top = m .top; table = m .table; log = v }
+  with-log v = record { state = m .state; height = m .height; sn = m .sn; mark = m .mark; window = m .window; highest-at-restart = m .highest-at-restart; table = m .table; log = v }
 
   abbrev pub with-sn : (ℕ → ℕ) → Memory
-  with-sn v = record { state = m .state; height = m .height; sn = v; mark = m .mark; window = m .window; top = m .top; table = m .table; log = m .log }
+  with-sn v = record { state = m .state; height = m .height; sn = v; mark = m .mark; window = m .window; highest-at-restart = m .highest-at-restart; table = m .table; log = m .log }
 
-  abbrev pub with-top : ℕ → Memory
-  with-top v = record { state = m .state; height = m .height; sn = m .sn; mark = m .mark; window = m .window; top = v; table = m .table; log = m .log }
+  abbrev pub with-highest-at-restart : ℕ → Memory
+  with-highest-at-restart v = record { state = m .state; height = m .height; sn = m .sn; mark = m .mark; window = m .window; highest-at-restart = v; table = m .table; log = m .log }
 
 module _ (s : State) where
   abbrev pub with-lost : Bool → State

@@ -1,7 +1,7 @@
 -- What a chare has after the restart: its copy, with another table and the top of that.
 use Rattle.lists.specs.Basics.{_≡_, sym, _∙_, List, ℕ, _+_, _-_, _<_, _≤_, arith, mod-eq-of-lt, length, set, getD-set-same, getD-set-other}
 use Rattle.lists.specs.Map.{upd}
-use Rattle.protocol.specs.{declared.Entry.Entry, Parts.{Memory, State}, Setters.{with-table, with-top, with-live, with-status}, Tickets.highest, Restart.target-of}
+use Rattle.protocol.specs.{declared.Entry.Entry, Parts.{Memory, State}, Setters.{with-table, with-highest-at-restart, with-live, with-status}, Tickets.highest, Restart.target-of}
 use Rattle.words.specs.{Part.{part, put, part-length, part-put, put-length, put-again}, PartSet.{part-set, part-set-before}}
 use Rattle.head.specs.Head.{TARGET}
 use Rattle.tickets.specs.Table.{entries}
@@ -10,10 +10,10 @@ use Rattle.store.specs.{Places.{STORE, live-from, copy-from}, View.view, ViewLa
 
 -- the memory m with the table l
 unfoldable pub renewed : Memory → List Entry → Memory
-renewed m l = with-top (with-table m l) (highest (m .height) l)
+renewed m l = with-highest-at-restart (with-table m l) (highest (m .height) l)
 
 -- ---- a memory's words
-top-set : (ws : List ℕ) (t : ℕ) → length ws ≡ MEMORY → t < 65536 → memory-view (set ws TOP t) ≡ with-top (memory-view ws) t
+top-set : (ws : List ℕ) (t : ℕ) → length ws ≡ MEMORY → t < 65536 → memory-view (set ws TOP t) ≡ with-highest-at-restart (memory-view ws) t
 unfolding memory-view
 top-set ws t size small =
     let n = part 0 NUMBERS ws in

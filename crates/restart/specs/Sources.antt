@@ -3,18 +3,18 @@
 use Rattle.lists.specs.Basics.{_≡_, sym, List, [], _∷_, _++_, ℕ}
 use Rattle.lists.specs.Lists.{gather}
 use Rattle.protocol.specs.{declared.Entry.Entry, declared.Logged.Logged, declared.Note.Note, Parts.{State, every-sender}}
-use Rattle.protocol.specs.{Restart.{known-tickets, other-log, copied-ticket, logged-ticket, noted-ticket, is-ticketed-above, is-noted-above}}
+use Rattle.protocol.specs.Restart.{known-tickets, other-log, ticket-of-entry, ticket-of-logged, ticket-of-note, is-ticketed-above, is-note-above}
 use Rattle.restart.specs.Gather.{chosen, gather-each, gather-chosen, gather-gather}
 
 -- what the copy's entries, the messages of a log and the notes add
 unfoldable pub copied : Entry → List Entry
-copied e = copied-ticket e ∷ []
+copied e = ticket-of-entry e ∷ []
 
 unfoldable pub logged : ℕ → ℕ → Logged → List Entry
-logged c h = chosen (is-ticketed-above c h) logged-ticket
+logged c h = chosen (is-ticketed-above c h) ticket-of-logged
 
 unfoldable pub noted : ℕ → ℕ → Note → List Entry
-noted c h = chosen (is-noted-above c h) noted-ticket
+noted c h = chosen (is-note-above c h) ticket-of-note
 
 -- the tickets for c that the log of q adds
 unfoldable pub sender-tickets : State → ℕ → ℕ → ℕ → ℕ → List Entry
@@ -27,8 +27,8 @@ unfolding known-tickets sender-tickets copied logged noted
 known-is s p c =
     let h = s .copy c .height in
     sym (rw (
-      gather-each copied-ticket (s .copy c .table),
+      gather-each ticket-of-entry (s .copy c .table),
       gather-gather (logged c h) (other-log s p) every-sender,
-      gather-chosen (is-ticketed-above c h) logged-ticket (gather (other-log s p) every-sender),
-      gather-chosen (is-noted-above c h) noted-ticket (s .notes p),
+      gather-chosen (is-ticketed-above c h) ticket-of-logged (gather (other-log s p) every-sender),
+      gather-chosen (is-note-above c h) ticket-of-note (s .notes p),
     ))

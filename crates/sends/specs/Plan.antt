@@ -39,7 +39,7 @@ extra-after same k = cond (same && is-new k) 1 0
 unfoldable pub plan-with : State → ℕ → ℕ → ℕ → Bool → Ticket → Plan
 plan-with s a d last same k =
     let z = s .live d in
-    plan-for (is-local (s .job) a d) (z .table) (z .top) (z .mark a) a last (base-after same k (z .height)) (extra-after same k)
+    plan-for (is-local (s .job) a d) (z .table) (z .highest-at-restart) (z .mark a) a last (base-after same k (z .height)) (extra-after same k)
 
 -- with none before it
 unfoldable pub plan-of : State → ℕ → ℕ → Plan

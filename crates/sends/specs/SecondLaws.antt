@@ -9,12 +9,12 @@ use Rattle.sends.specs.Plan.{plan-for, plan-with, plan-of, plan-after, l
 
 -- to the same receiver: the table as the first send left it, or the table before it with the first ticket's TN and entry
 same-receiver : (near : Bool) (y : Memory) (a : ℕ) (m : Message) (k : Ticket) → (is-new k ≡ true → tn-of k ≡ new-tn y)
-    → plan-for near (table-by snoc (y .table) m k) (y .top) (y .mark a) a (m .sn) (y .height) 0
-    ≡ plan-for near (y .table) (y .top) (y .mark a) a (m .sn) (base-after true k (y .height)) (extra-after true k)
+    → plan-for near (table-by snoc (y .table) m k) (y .highest-at-restart) (y .mark a) a (m .sn) (y .height) 0
+    ≡ plan-for near (y .table) (y .highest-at-restart) (y .mark a) a (m .sn) (base-after true k (y .height)) (extra-after true k)
 unfolding plan-for table-by base-after extra-after is-new tn-of local-entry
 same-receiver near y a m Remote new = refl
 same-receiver near y a m (Found t) new =
-    rw (entry-filled (m .sender) (m .sn) (m .value) (m .hops) (y .table) a, next-filled (m .sender) (m .sn) (m .value) (m .hops) (y .height) (y .top) (y .table), length-filled)
+    rw (entry-filled (m .sender) (m .sn) (m .value) (m .hops) (y .table) a, next-filled (m .sender) (m .sn) (m .value) (m .hops) (y .height) (y .highest-at-restart) (y .table), length-filled)
 same-receiver near y a m (New t) new =
     let e : length (y .table ++ (local-entry m t ∷ [])) + 0 ≡ length (y .table) + 1 = omega (arith, length-append (y .table) (local-entry m t ∷ [])) in
     rw (entry-more (y .table) m t a, next-after y (local-entry m t) (new refl), e)
@@ -30,7 +30,7 @@ module _ (s : State) (a b v h : ℕ) (k : Ticket) (new : is-new k ≡ true → t
       let table = upd b (table-by snoc (s .live b .table) m k) (λ i. s .live i .table) d in
       let last = upd b (m .sn) (s .live a .sn) d in
       rw (table-after s m k d, sn-after s m k)
-      (keeps s m k (λ y. plan-for (is-local (s .job) a d) table (y .top) (y .mark a) a last (y .height) 0) (λ y l. refl) (λ y t. refl) d
+      (keeps s m k (λ y. plan-for (is-local (s .job) a d) table (y .highest-at-restart) (y .mark a) a last (y .height) 0) (λ y l. refl) (λ y t. refl) d
       ∙ elim (eq? d b) [
         | inl e ↦ rw (e, eq-eqb b b refl, upd-same b (m .sn), upd-same b) (same-receiver (is-local (s .job) a b) (s .live b) a m k new)
         | inr n ↦ rw (ne-eqb d b n, upd-other b (m .sn) (s .live a .sn) d n, upd-other b (table-by snoc (s .live b .table) m k) (λ i. s .live i .table) d n)

@@ -1,6 +1,6 @@
 -- One word as an entry: its fields, its name, and what changes of it fit a word again.
 use Rattle.lists.specs.Basics.{_≡_, refl, Bool, true, false, ℕ, _+_, _*_, _/_, _%_, _<_, mod-eq-of-lt, eqb, ltb}
-use Rattle.protocol.specs.{declared.Entry.Entry, Tickets.{for-message, fill, note-entry}, Checkpoint.above-height}
+use Rattle.protocol.specs.{declared.Entry.Entry, Tickets.{for-message, fill, mark-noted}, Checkpoint.above-height}
 use Rattle.words.specs.{Fields.bit, Rows.named}
 use Rattle.item.specs.Item.{item-of, clipped, peer-small, hops-small, by-name as item-name}
 use Rattle.tickets.specs.Table.{entry-of, as-entry, fitted}
@@ -30,8 +30,8 @@ pub fitted-fill : (v h w : ℕ) (e : Entry) → e ≡ entry-of w → fitted (fil
 unfolding fitted fill
 fitted-fill v h w e d = rw (d, mod-eq-of-lt (sender-small w))
 
-pub fitted-note : (w : ℕ) (e : Entry) → e ≡ entry-of w → fitted (note-entry e) ≡ note-entry (entry-of w)
-unfolding fitted note-entry entry-of as-entry
+pub fitted-note : (w : ℕ) (e : Entry) → e ≡ entry-of w → fitted (mark-noted e) ≡ mark-noted (entry-of w)
+unfolding fitted mark-noted entry-of as-entry
 fitted-note w e d = rw (d, mod-eq-of-lt (peer-small w), mod-eq-of-lt (hops-small w))
 
 -- above the height or not, by the TN read from the word

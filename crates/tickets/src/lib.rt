@@ -5,7 +5,7 @@ ghost use Prim.Native.Nat.{_-_, _%_};
 ghost use lib.ListN.{length, getD};
 ghost use Rattle.lists.specs.Lists.{anyb, keep, find as first, change1};
 ghost use Rattle.arrays.specs.Front.{push as pushed};
-ghost use Rattle.protocol.specs.Tickets.{for-message, entry, filled, note-entry, unreceived, has-tn, highest as highest-of, lowest-hole, next-tn};
+ghost use Rattle.protocol.specs.Tickets.{for-message, entry, filled, mark-noted, unreceived, has-tn, highest as highest-of, lowest-hole, next-tn};
 ghost use Rattle.protocol.specs.Checkpoint.{above-height};
 ghost use Rattle.protocol.specs.Restart.{below-hole};
 ghost use Rattle.tickets.specs.Table.{entry-of, fitted, entries, found-entry, found-hole, Entering};
@@ -154,7 +154,7 @@ pub fn fill(ws: &mut [u64], sender: u8, sn: u16, value: u16, hops: u8)
 
 // An entry noted.
 fn noted(w: u64) -> u64
-    ensures { λ r. ⌜ entry-of r ≡ note-entry (entry-of w) ⌝ }
+    ensures { λ r. ⌜ entry-of r ≡ mark-noted (entry-of w) ⌝ }
 {
     let e = unpack(w);
     pack(Entry {
@@ -170,7 +170,7 @@ fn noted(w: u64) -> u64
 
 // The first entry for a sender and an SN becomes noted.
 pub fn note(ws: &mut [u64], sender: u8, sn: u16)
-    ensures { λ _. ⌜ entries (now (ws .exit)) ≡ change1 (for-message sender sn) note-entry (entries (now (ws .entry))) ⌝ }
+    ensures { λ _. ⌜ entries (now (ws .exit)) ≡ change1 (for-message sender sn) mark-noted (entries (now (ws .entry))) ⌝ }
 {
     let i = words::seek(ws, sender, sn);
     if i < words::count(ws) {
@@ -181,7 +181,7 @@ pub fn note(ws: &mut [u64], sender: u8, sn: u16)
 
 // The entries above a height, all noted.
 pub fn prune(ws: &mut [u64], height: u16)
-    ensures { λ _. ⌜ entries (now (ws .exit)) ≡ map note-entry (keep (above-height height) (entries (now (ws .entry)))) ⌝ }
+    ensures { λ _. ⌜ entries (now (ws .exit)) ≡ map mark-noted (keep (above-height height) (entries (now (ws .entry)))) ⌝ }
 {
     let n = words::count(ws);
     if n == 0 {

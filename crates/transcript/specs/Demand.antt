@@ -1,7 +1,7 @@
 -- The state that a reader holds: that of the lines that are finished, and, if it is quiet, demand 3 of it.
 use Rattle.lists.specs.Basics.{_≡_, refl, ap, _∙_, true, cond, List, [], _∷_, _++_, ℕ, eqb}
 use Rattle.lists.specs.Tests.{either}
-use Rattle.protocol.specs.{Parts.{State, start}, Frames.Line, Lines.{newline, lines}, Step.{Outcome, step, run}}
+use Rattle.protocol.specs.{Parts.{State, start}, Frames.Line, Lines.{newline, lines}, Step.{Outcome, step, play-all}}
 use Rattle.protocol.specs.{History.{state-after, history-after}, Demand3.{Quiet, Agrees, Begins}, Recovery.Theorem.demand3}
 use Rattle.transcript.specs.{Reading.{within, beginning, read-all, is-empty, finishes, end-state}}
 use Rattle.transcript.specs.{Pieces.{continued, continued-nothing, continued-hit, continued-miss, kept-step, kept-empty, ends-state, goes-on}}
@@ -28,8 +28,8 @@ unfoldable pub finished : List ℕ → List Line
 finished i = ended [] i
 
 -- ---- on the way
-reads-ended : (s : State) (l : Line) (i : List ℕ) → read-all (within s l) i .state ≡ run s (ended l i)
-unfolding read-all ended run
+reads-ended : (s : State) (l : Line) (i : List ℕ) → read-all (within s l) i .state ≡ play-all s (ended l i)
+unfolding read-all ended play-all
 reads-ended s l [] = unfold within in refl
 reads-ended s l (b ∷ i) = either (eqb b newline)
     (λ e. ap (λ r. read-all r i .state) (ends-state s l b e) ∙ rw e (reads-ended (step s l .state) [] i))
@@ -41,8 +41,8 @@ finished-state i = reads-ended start [] i
 
 -- ---- at the end, where there is room for it
 module _ (room : ℕ) where
-  ends-continued : (s : State) (l : Line) (i : List ℕ) → finishes room (read-all (within s l) i) ≡ true → end-state room (read-all (within s l) i) ≡ run s (continued l (lines i))
-  unfolding read-all run
+  ends-continued : (s : State) (l : Line) (i : List ℕ) → finishes room (read-all (within s l) i) ≡ true → end-state room (read-all (within s l) i) ≡ play-all s (continued l (lines i))
+  unfolding read-all play-all
   ends-continued s l [] h =
       unfold finishes end-state continued lines in
       let g = rw (kept-empty s l) at h in

@@ -5,7 +5,7 @@ ghost use mathlib.Core.List.{_++_};
 ghost use Prim.Native.Nat.{_+_, _≤_, min};
 ghost use lib.ListN.{length, take};
 ghost use Rattle.store.specs.Places.{STORE};
-ghost use Rattle.transcript.specs.Reading.{printed, LINE};
+ghost use Rattle.transcript.specs.Reading.{printed, answer-room, LINE};
 ghost use Rattle.transcript.specs.LineWise.{line-end};
 ghost use Rattle.transcript.specs.Copies.{put-at};
 ghost use Rattle.transcript.specs.View.{reading, Feeding, Ending, Transcribed};
@@ -14,6 +14,9 @@ use store::STORE;
 
 // One more than the longest frame has digits: of a longer line the first bytes are kept, which are no frame either.
 pub const LINE: usize = 2047;
+
+// The room for an answer's line, its newline included.
+const ANSWER: usize = 15;
 
 // A reader that was fed: what it has of the line under way, how many bytes it took, and how many it wrote.
 pub struct Fed {
@@ -65,7 +68,7 @@ fn keep(line: &mut [u8], n: usize, piece: &[u8]) -> usize
 
 // Writes an answer's line from `at` on; how many bytes it has.
 fn put(out: &mut [u8], at: usize, answer: Answer) -> usize
-    requires { ⌜ at + 15 ≤ length (now out) ⌝ }
+    requires { ⌜ at + answer-room ≤ length (now out) ⌝ }
     ensures count { λ r. ⌜ r ≡ length (printed answer) ⌝ }
     ensures bytes { λ r. ⌜ now (out .exit) ≡ put-at (now (out .entry)) at (printed answer) ⌝ }
 {
@@ -90,7 +93,7 @@ fn feed_on(s: &mut [u64], line: &mut [u8], n: usize, input: &[u8], out: &mut [u8
     let mut taken = 0;
     let mut written = 0;
     loop {
-        if out.len() - written < 15 {
+        if out.len() - written < ANSWER {
             return Fed {
                 len,
                 taken,

@@ -3,13 +3,8 @@ use Rattle.lists.specs.Basics.{_≡_, sym, _∙_, ap, inl, inr, ℕ, suc, _+_, 
 use Rattle.lists.specs.Tests.{lt?}
 use Rattle.protocol.specs.{Window.Bits, Work.rotate}
 use Rattle.window.specs.{Bits.bits, BitLaws.shift-bits}
-use lib.Bits.{bitOr}
-use lib.Bits.{or-shifted}
-use lib.Pow.{field}
-use lib.Pow.{high}
-use lib.Pow.{low}
-use lib.Pow.{mod-mod-pow}
-use lib.Pow.{shr-lt}
+use lib.Bits.{bitOr, or-shifted}
+use lib.Pow.{field, high, low, mod-mod-pow, shr-lt}
 
 -- the 27 low bits move up by 5, the 5 high ones come round to the places left empty
 rotated : (x : ℕ) → rotate x ≡ x % 2 ^ 27 * 2 ^ 5 + x / 2 ^ 27

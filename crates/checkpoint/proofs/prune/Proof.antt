@@ -1,7 +1,7 @@
 -- `checkpoint::prune` meets its contract: the table is the row that the memory lends.
 use Rattle.lists.specs.Basics.{_∙_, map, arith, needs}
 use Rattle.lists.specs.Lists.{keep}
-use Rattle.protocol.specs.{Tickets.note-entry, Checkpoint.{above-height, pruned}}
+use Rattle.protocol.specs.{Tickets.mark-noted, Checkpoint.{above-height, pruned}}
 use Rattle.memory.specs.View.{table-changed}
 use Rattle.checkpoint.proofs.prune.Statement.{statement}
 use Rattle.checkpoint.proofs.prune.Tie as tie
@@ -12,7 +12,7 @@ returns c =
     let u = c .before .before in
     let st = u .before .before .before .before .before in
     let h = u .before .before .height in
-    table-changed (st .args .m .now) (u .prune .last .0) (st .pre) (omega arith) (λ l. map note-entry (keep (above-height (h .result)) l)) (u .prune .ensures) ∙ rw (h .ensures)
+    table-changed (st .args .m .now) (u .prune .last .0) (st .pre) (omega arith) (λ l. map mark-noted (keep (above-height (h .result)) l)) (u .prune .ensures) ∙ rw (h .ensures)
 
 pub prune-spec : {M : Type 1} → statement M
 prune-spec =

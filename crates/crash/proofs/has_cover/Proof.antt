@@ -1,5 +1,5 @@
 -- `crash::has_cover` meets its contract: the machines before q are normal, so the answer is that for the rest.
-use Rattle.lists.specs.Basics.{_≡_, refl, sym, _∙_, _+_, _-_, _≤_, arith, not-true, not-false, needs}
+use Rattle.lists.specs.Basics.{_≡_, sym, _∙_, _+_, _-_, _≤_, arith, not-true, not-false, needs}
 use Rattle.arrays.specs.Loops.{each, each-hit, each-miss, each-end}
 use Rattle.lists.specs.Lists.{allb}
 use Rattle.protocol.specs.{Crash.{is-normal, has-cover}, Parts.job-machines}

@@ -15,7 +15,7 @@ use Rattle.protocol.specs.Frames.{Line, Frame, job, inject, deliver, wor
 use Rattle.protocol.specs.Job.{machines-of, buddy-byte, job-in-range, has-machine, job-of, begin}
 use Rattle.protocol.specs.Questions.{questions}
 use Rattle.protocol.specs.Step.{Outcome, accept, judged, play, answers-from}
-use Rattle.protocol.specs.Computing.{text}
+use Rattle.protocol.specs.Cases.Computing.{text}
 
 -- ---- the former reading, document 01's: "buddy 00 is the next machine, 1 after M"
 unfoldable pub next-machine : ℕ → ℕ → ℕ

@@ -16,7 +16,7 @@ use Rattle.protocol.specs.Frames.{Line, job, frame, frame-of, parts, byt
 use Rattle.protocol.specs.Job.{machines-of, chares-of, buddy-byte, chare-byte, buddy-in-range, chare-in-range, job-in-range, has-machine, has-chare, previous-machine, job-of, first-memory, begin}
 use Rattle.protocol.specs.Questions.{questions, job-questions}
 use Rattle.protocol.specs.Step.{play, outcome, step, step-frame, answers-from}
-use Rattle.protocol.specs.Computing.{opened}
+use Rattle.protocol.specs.Cases.Computing.{opened}
 use Rattle.protocol.specs.Recovery.Frames.Job.{between-true, true-between, machine-positive, chare-positive}
 use Rattle.protocol.specs.Changes.ZeroBuddy.{next-machine, buddy-before, job-before, begin-before, play-before, step-before, answers-before, spelt-byte, by-place, spelt-out, spelt, spelt-frame, Rewritten, nothing, line, ZeroBuddy}
 

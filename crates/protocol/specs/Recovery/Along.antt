@@ -14,7 +14,7 @@ use Rattle.protocol.specs.Setters.{with-lost, with-status}
 use Rattle.protocol.specs.Restart.{is-done, settle-machine, settle-all, settle}
 use Rattle.protocol.specs.Frames.{Line, Frame, job, inject, deliver, work, checkpoint, crash, restart, show, frame}
 use Rattle.protocol.specs.Questions.{questions}
-use Rattle.protocol.specs.Step.{Outcome, accept, crash-outcome, deliver-outcome, work-outcome, outcome, judged, play, step-frame, step, run}
+use Rattle.protocol.specs.Step.{Outcome, accept, crash-outcome, deliver-outcome, work-outcome, outcome, judged, play, step-frame, step, play-all}
 use Rattle.protocol.specs.History.{is-accepted}
 
 -- what an accepted frame makes of it; s is the state before the frame
@@ -79,8 +79,8 @@ module _ {H : Type 0} (change : State → H → Frame → H) (P : State → H �
   keep-read s h k none = k
   keep-read s h k (some f) = keep-judged s h k f (put-all (questions s f) (outcome s f)) refl
 
-  pub keep-along : (s : State) (h : H) (ls : List Line) → P s h → P (run s ls) (along change s h ls)
-  unfolding run along step
+  pub keep-along : (s : State) (h : H) (ls : List Line) → P s h → P (play-all s ls) (along change s h ls)
+  unfolding play-all along step
   keep-along s h [] k = k
   keep-along s h (l ∷ ls) k = keep-along (step s l .state) _ ls (keep-read s h k (frame l))
 

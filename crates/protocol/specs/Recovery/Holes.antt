@@ -1,4 +1,4 @@
--- Holes as document 01 has them, a set: those of the restart less those given since. The statement that `top`, height and table say
+-- Holes as document 01 has them, a set: those of the restart less those given since. The statement that `highest-at-restart`, height and table say
 -- the same; `holes-read-off` in Numbers proves it.
 use mathlib.Core.Path.{_≡_}
 use mathlib.Core.Bool.{Bool, true, false, cond, not, _&&_}
@@ -71,10 +71,10 @@ abbrev pub Lowest : (ℕ → Bool) → Option ℕ → Type 0
 Lowest h none = (t : ℕ) → h t ≡ false
 Lowest h (some t) = (h t ≡ true) × ((u : ℕ) → h u ≡ true → t ≤ u)
 
--- the set h is what `top`, height and table say, and its lowest is the TN that a new ticket takes
+-- the set h is what `highest-at-restart`, height and table say, and its lowest is the TN that a new ticket takes
 pub record ReadOff (h : ℕ → Bool) (m : Memory) : Type 0 where
-  pub same : (t : ℕ) → h t ≡ is-hole (m .height) (m .top) (m .table) t
-  pub lowest : Lowest h (lowest-hole (m .height) (m .top) (m .table))
+  pub same : (t : ℕ) → h t ≡ is-hole (m .height) (m .highest-at-restart) (m .table) t
+  pub lowest : Lowest h (lowest-hole (m .height) (m .highest-at-restart) (m .table))
 
 -- For every list of lines, of every chare.
 abbrev pub HolesReadOff : Type 0

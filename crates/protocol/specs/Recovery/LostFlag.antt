@@ -22,7 +22,7 @@ use Rattle.protocol.specs.Frames as frames
 use Rattle.protocol.specs.Frames.{Line, Frame, frame}
 use Rattle.protocol.specs.Job.{begin}
 use Rattle.protocol.specs.Questions as questions
-use Rattle.protocol.specs.Step.{Outcome, accept, crash-outcome, deliver-outcome, work-outcome, outcome, judged, play, step-frame, step, run, answers-from}
+use Rattle.protocol.specs.Step.{Outcome, accept, crash-outcome, deliver-outcome, work-outcome, outcome, judged, play, step-frame, step, play-all, answers-from}
 use Rattle.protocol.specs.History.{state-after, answers-after}
 use Rattle.protocol.specs.Recovery.Along.{settled}
 use Rattle.protocol.specs.Recovery.Frames.Calm.{calm-send, calm-send-all, calm-deliver}
@@ -86,21 +86,21 @@ unfolding step
 line-flag s l = read s (frame l)
 
 -- ---- a list of lines, from any state
-still : (s : State) (ls : List Line) → s .lost ≡ true → run s ls .lost ≡ true
-unfolding run
+still : (s : State) (ls : List Line) → s .lost ≡ true → play-all s ls .lost ≡ true
+unfolding play-all
 still s [] e = e
 still s (l ∷ ls) e = still (step s l .state) ls (elim (line-flag s l) [ inl k ↦ k .flag ∙ e | inr k ↦ k .flag ])
 
-printed-sets : (s : State) (ls : List Line) → Lost ∈ answers-from s ls → run s ls .lost ≡ true
-unfolding run answers-from
+printed-sets : (s : State) (ls : List Line) → Lost ∈ answers-from s ls → play-all s ls .lost ≡ true
+unfolding play-all answers-from
 printed-sets s [] i = absurd (List·Memᴰ·not-nil i)
 printed-sets s (l ∷ ls) i = elim (List·Memᴰ·cases-cons i) [
   | inl e ↦ still (step s l .state) ls (elim (line-flag s l) [ inl k ↦ absurd (k .other (sym e)) | inr k ↦ k .flag ])
   | inr j ↦ printed-sets (step s l .state) ls j
 ]
 
-set-printed : (s : State) (ls : List Line) → run s ls .lost ≡ true → (s .lost ≡ true) ⊎ (Lost ∈ answers-from s ls)
-unfolding run answers-from
+set-printed : (s : State) (ls : List Line) → play-all s ls .lost ≡ true → (s .lost ≡ true) ⊎ (Lost ∈ answers-from s ls)
+unfolding play-all answers-from
 set-printed s [] e = inl e
 set-printed s (l ∷ ls) e = elim (set-printed (step s l .state) ls e) [
   | inl f ↦ elim (line-flag s l) [ inl k ↦ inl (sym (k .flag) ∙ f) | inr k ↦ inr (here (sym (k .ff))) ]

@@ -21,10 +21,10 @@ use Rattle.protocol.specs.declared.Content.{Content}
 use Rattle.protocol.specs.declared.Content.the-variants.{Ask as ASK, GrantOld as GRANT-old, GrantReceived as GRANT-received, GrantNew as GRANT-new, Data as DATA, Note as NOTE, Ack as ACK}
 use Rattle.protocol.specs.declared.Lookup.{Lookup}
 use Rattle.protocol.specs.declared.Lookup.the-variants.{Missing, Ticketed, Unticketed}
-use Rattle.protocol.specs.Parts.{Memory, State, most, blank, start, on, up, at-home}
+use Rattle.protocol.specs.Parts.{Memory, State, number-limit, blank, start, on, up, at-home}
 use Rattle.protocol.specs.Setters.{with-table, with-log, with-memory, with-wire}
 use Rattle.protocol.specs.Window.{Bits, width, in-window, bit-set, ones, rise, risen-mark, slid-window}
-use Rattle.protocol.specs.Tickets.{fill, filled, note-entry, unreceived, entry, new-tn}
+use Rattle.protocol.specs.Tickets.{fill, filled, mark-noted, unreceived, entry, new-tn}
 use Rattle.protocol.specs.Sending.{is-local, about, put, next-message, log-message, send-remote, local-entry, send-local, send-message, send, send-all}
 use Rattle.protocol.specs.Working.{next-entry, work-entry, worked-only, receivers-of, value-out, hops-out, work-next}
 use Rattle.protocol.specs.Packets as packets
@@ -51,12 +51,12 @@ use Rattle.protocol.specs.Recovery.Holes.{Holes, no-holes, restart-holes
 -- ---- what is bounded
 -- the mark, and every SN whose bit is set
 record Marks (k : ℕ) (w : Bits) : Type 0 where
-  mark : k ≤ most
-  bits : (i : ℕ) → w i ≡ true → k + 1 + i ≤ most
+  mark : k ≤ number-limit
+  bits : (i : ℕ) → w i ≡ true → k + 1 + i ≤ number-limit
 
 -- an SN n with its TN t
 abbrev Fit : ℕ → ℕ → Type 0
-Fit n t = (n ≤ most) × (t ≤ most)
+Fit n t = (n ≤ number-limit) × (t ≤ number-limit)
 
 abbrev Table : List Entry → Type 0
 Table = All (λ e. Fit (e .sn) (e .tn))
@@ -76,13 +76,13 @@ record Small (m : Memory) : Type 0 where
   log : Log (m .log)
 
 -- ---- a mark rises to an SN that was worked
-marks-set : {k : ℕ} {w : Bits} (n : ℕ) → Marks k w → n ≤ most → in-window k n ≡ true → (i : ℕ) → bit-set k w n i ≡ true → k + 1 + i ≤ most
+marks-set : {k : ℕ} {w : Bits} (n : ℕ) → Marks k w → n ≤ number-limit → in-window k n ≡ true → (i : ℕ) → bit-set k w n i ≡ true → k + 1 + i ≤ number-limit
 unfolding in-window bit-set
 marks-set {k} {w} n m h e =
     let a : k < n = ltb-true k n (and-l (ltb k n) _ e) in
-    upd-ind (λ i b. b ≡ true → k + 1 + i ≤ most) (n - k - 1) true w (λ _. omega arith) (λ i _. m .bits i)
+    upd-ind (λ i b. b ≡ true → k + 1 + i ≤ number-limit) (n - k - 1) true w (λ _. omega arith) (λ i _. m .bits i)
 
-marks-work : {k : ℕ} {w : Bits} (n : ℕ) → Marks k w → n ≤ most → Marks (risen-mark k w n) (slid-window k w n)
+marks-work : {k : ℕ} {w : Bits} (n : ℕ) → Marks k w → n ≤ number-limit → Marks (risen-mark k w n) (slid-window k w n)
 unfolding risen-mark slid-window rise
 marks-work {k} {w} n m h = either (in-window k n)
     (λ e.
@@ -145,7 +145,7 @@ kept-ticket {s} {h} k c e q fit =
     let x = s .live c in
     record {
       holes = upd-ind₂ (λ c (m : Memory) (g : ℕ → Bool). (t : ℕ) → g t ≡ holes-of m t) c _ _ (s .live) h
-          (λ t. rw (k .holes c t, ← q) (sym (holes-snoc (x .height) (x .top) (x .table) e t)))
+          (λ t. rw (k .holes c t, ← q) (sym (holes-snoc (x .height) (x .highest-at-restart) (x .table) e t)))
           (λ c _. k .holes c);
       live = upd-ind (λ _. Small) c _ (s .live) (small-table (k .live c) (all-snoc (x .table) (k .live c .table) fit)) (λ c _. k .live c);
       copy = k .copy;
@@ -179,8 +179,8 @@ kept-message {s} k m t fit =
     let x = k .live (m .sender) in
     kept-memory k (m .sender) (record { marks = x .marks; table = x .table; log = all-snoc (s .live (m .sender) .log) (x .log) fit }) (λ t. refl)
 
-kept-local : {s : State} {h : Holes} → Kept s h → (m : Message) (o : Option Entry) → entry (s .live (m .receiver) .table) (m .sender) (m .sn) ≡ o → m .sn ≤ most
-    → (questions.no-entry o ≡ true → new-tn (s .live (m .receiver)) ≤ most) → Kept (send-local s m o) (cond (questions.no-entry o) (give s (m .receiver) h) h)
+kept-local : {s : State} {h : Holes} → Kept s h → (m : Message) (o : Option Entry) → entry (s .live (m .receiver) .table) (m .sender) (m .sn) ≡ o → m .sn ≤ number-limit
+    → (questions.no-entry o ≡ true → new-tn (s .live (m .receiver)) ≤ number-limit) → Kept (send-local s m o) (cond (questions.no-entry o) (give s (m .receiver) h) h)
 unfolding send-local questions.no-entry filled fill local-entry about packets.tn-of packets.new-table
 kept-local {s} k m (some e) found n t =
     let l = s .live (m .receiver) .table in
@@ -191,8 +191,8 @@ kept-send : {s : State} {h : Holes} → Kept s h → (a b value hops : ℕ) → 
 unfolding send send-message send-remote next-message about packets.tn-of questions.numbers-fit questions.takes-ticket questions.sn-to-send
 kept-send {s} k a b value hops y =
     let m = next-message s a b value hops in
-    let n : s .live a .sn b + 1 ≤ most = leb-true _ _ (and-l _ _ y) in
-    let t = and-r (leb (s .live a .sn b + 1) most) _ y in
+    let n : s .live a .sn b + 1 ≤ number-limit = leb-true _ _ (and-l _ _ y) in
+    let t = and-r (leb (s .live a .sn b + 1) number-limit) _ y in
     either (is-local (s .job) a b)
     (λ e. rw e (kept-local k m (entry (s .live b .table) a (s .live a .sn b + 1)) refl n (λ q. leb-true _ _ (rw (e, q) at t))))
     (λ e. rw e (kept-put (kept-message k m 0 (n, omega arith)) _ (n, omega arith)))
@@ -204,12 +204,12 @@ kept-sends k a [] value hops y = k
 kept-sends {s} k a (b ∷ l) value hops y = kept-sends (kept-send k a b value hops (and-l _ _ y)) a l value hops (and-r (questions.numbers-fit s a b) _ y)
 
 -- ---- delivering
-kept-reply : {s : State} {h : Holes} → Kept s h → (y : Packet) → y .sn ≤ most → (c : Content) → packets.tn-of c ≤ most → Kept (packets.reply s y c) h
+kept-reply : {s : State} {h : Holes} → Kept s h → (y : Packet) → y .sn ≤ number-limit → (c : Content) → packets.tn-of c ≤ number-limit → Kept (packets.reply s y c) h
 unfolding packets.reply
 kept-reply k y n c t = kept-put k _ (n, t)
 
-kept-ask : {s : State} {h : Holes} → Kept s h → (y : Packet) → y .sn ≤ most → (o : Option Entry) → packets.entry-of s y ≡ o → (w : Bool)
-    → ((questions.no-entry o && not w) ≡ true → new-tn (s .live (y .receiver)) ≤ most) → Kept (packets.ask s y o w) (cond (questions.no-entry o && not w) (give s (y .receiver) h) h)
+kept-ask : {s : State} {h : Holes} → Kept s h → (y : Packet) → y .sn ≤ number-limit → (o : Option Entry) → packets.entry-of s y ≡ o → (w : Bool)
+    → ((questions.no-entry o && not w) ≡ true → new-tn (s .live (y .receiver)) ≤ number-limit) → Kept (packets.ask s y o w) (cond (questions.no-entry o && not w) (give s (y .receiver) h) h)
 unfolding packets.ask packets.entry-of packets.tn-of questions.no-entry unreceived
 kept-ask {s} k y n (some e) found w t =
     let q = k .live (y .receiver) .table e (entry-some (s .live (y .receiver) .table) (y .sender) (y .sn) found .0) .1 in
@@ -217,13 +217,13 @@ kept-ask {s} k y n (some e) found w t =
 kept-ask k y n none found true t = kept-reply k y n _ (omega arith)
 kept-ask k y n none found false t = kept-reply (kept-ticket k (y .receiver) (unreceived (y .sender) (y .sn) _) refl (n, t refl)) y n _ (t refl)
 
-kept-grant : {s : State} {h : Holes} → Kept s h → (y : Packet) (t : ℕ) → t ≤ most → (o : Lookup) → Kept (packets.grant-received s y t o) h
+kept-grant : {s : State} {h : Holes} → Kept s h → (y : Packet) (t : ℕ) → t ≤ number-limit → (o : Lookup) → Kept (packets.grant-received s y t o) h
 unfolding packets.grant-received packets.ticketed packets.set-tn
 kept-grant k y t f Missing = k
 kept-grant k y t f Ticketed = k
 kept-grant {s} k y t f (Unticketed m) = kept-log k (y .sender) (all-change1 _ _ (s .live (y .sender) .log) (λ x q. (q .0, f)) (k .live (y .sender) .log))
 
-kept-new : {s : State} {h : Holes} → Kept s h → (y : Packet) → y .sn ≤ most → (t : ℕ) → t ≤ most → (o : Lookup) → Kept (packets.grant-new s y t o) h
+kept-new : {s : State} {h : Holes} → Kept s h → (y : Packet) → y .sn ≤ number-limit → (t : ℕ) → t ≤ number-limit → (o : Lookup) → Kept (packets.grant-new s y t o) h
 unfolding packets.grant-new packets.tn-of
 kept-new k y n t f Missing = k
 kept-new k y n t f Ticketed = k
@@ -240,8 +240,8 @@ unfolding packets.data-in filled fill
 kept-data k y v n none = k
 kept-data k y v n (some e) = either (e .received) (λ q. rw q k) (λ q. rw q (kept-entries k (y .receiver) _ _ (λ e. refl) (λ e. refl)))
 
-kept-note : {s : State} {h : Holes} → Kept s h → (y : Packet) (t : ℕ) → Fit (y .sn) t → Kept (packets.note s y t) h
-unfolding packets.note packets.note-of packets.tn-of
+kept-note : {s : State} {h : Holes} → Kept s h → (y : Packet) (t : ℕ) → Fit (y .sn) t → Kept (packets.store-note s y t) h
+unfolding packets.store-note packets.note-of packets.tn-of
 kept-note {s} k y t fit =
     let p = s .job .home (y .receiver) in
     kept-reply (record {
@@ -249,7 +249,7 @@ kept-note {s} k y t fit =
       live = k .live;
       copy = k .copy;
       notes = upd-ind (λ _. Notes) p _ (s .notes)
-          (either (packets.is-noted (s .notes p) (packets.note-of y t)) (λ q. rw q (k .notes p)) (λ q. rw q (all-snoc (s .notes p) (k .notes p) fit)))
+          (either (packets.has-note (s .notes p) (packets.note-of y t)) (λ q. rw q (k .notes p)) (λ q. rw q (all-snoc (s .notes p) (k .notes p) fit)))
           (λ p _. k .notes p);
       wire = k .wire;
     }) y (fit .0) ACK (omega arith)
@@ -258,9 +258,9 @@ kept-note {s} k y t fit =
 abbrev asks-new : State → Packet → Content → Bool
 asks-new s y c = eqb (packets.kind c) 1 && questions.no-entry (packets.entry-of s y) && not (packets.is-worked (s .live (y .receiver)) (y .sender) (y .sn))
 
-kept-arrive : {s : State} {h : Holes} → Kept s h → (y : Packet) → y .sn ≤ most → (c : Content) → packets.tn-of c ≤ most → (asks-new s y c ≡ true → new-tn (s .live (y .receiver)) ≤ most)
+kept-arrive : {s : State} {h : Holes} → Kept s h → (y : Packet) → y .sn ≤ number-limit → (c : Content) → packets.tn-of c ≤ number-limit → (asks-new s y c ≡ true → new-tn (s .live (y .receiver)) ≤ number-limit)
     → Kept (packets.arrive s y c) (cond (asks-new s y c) (give s (y .receiver) h) h)
-unfolding packets.arrive packets.kind packets.tn-of packets.ack note-entry
+unfolding packets.arrive packets.kind packets.tn-of packets.ack mark-noted
 kept-arrive k y n ASK t q = kept-ask k y n _ refl _ q
 kept-arrive k y n GRANT-old t q = kept-old k y _
 kept-arrive k y n (GRANT-received u) t q = kept-grant k y u t _
@@ -289,10 +289,10 @@ unfolding work-outcome give-worked questions.entry-questions questions.put-to-se
 kept-work k c none found y = kept-accept k
 kept-work {s} k c (some e) found y =
     kept-accept (kept-sends (kept-memory k c (small-work (k .live c) e (next-entry-some (s .live c) found .0)) (holes-work (s .live c) e found)) c (receivers-of s c e) (value-out s c e) (hops-out e)
-    (and-r (leb (s .live c .height + 1) most && leb (questions.mark-after (s .live c) e) most) _ (y .1 .0)))
+    (and-r (leb (s .live c .height + 1) number-limit && leb (questions.mark-after (s .live c) e) number-limit) _ (y .1 .0)))
 
 kept-prune : {s : State} {h : Holes} → Kept s h → (p : ℕ) → Kept (checkpoints.prune s p) h
-unfolding checkpoints.prune checkpoints.pruned note-entry pruned-table
+unfolding checkpoints.prune checkpoints.pruned mark-noted pruned-table
 kept-prune {s} {h} k p = record {
   holes = at-home-ind (λ c m. (t : ℕ) → h c t ≡ holes-of m t) (s .job) p _ (s .live) (λ c _ t. k .holes c t ∙ sym (holes-pruned (s .live c) t)) (λ c _. k .holes c);
   live = at-home-ind (λ _. Small) (s .job) p _ (s .live)
@@ -316,7 +316,7 @@ kept-clean : {s : State} {h : Holes} → Kept s h → (p : ℕ) → Kept (checkp
 unfolding checkpoints.clean-logs checkpoints.clean-log
 kept-clean {s} k p = record {
   holes = λ c t. either (up s (s .job .home c)) (λ e. rw e (k .holes c t)) (λ e. rw e (k .holes c t));
-  live = λ c. either (up s (s .job .home c)) (λ e. rw e (small-log (k .live c) (λ x i. k .live c .log x (keep-mem (checkpoints.stays s p) (s .live c .log) i .0)))) (λ e. rw e (k .live c));
+  live = λ c. either (up s (s .job .home c)) (λ e. rw e (small-log (k .live c) (λ x i. k .live c .log x (keep-mem (checkpoints.stays-in-log s p) (s .live c .log) i .0)))) (λ e. rw e (k .live c));
   copy = k .copy;
   notes = k .notes;
   wire = k .wire;
@@ -358,7 +358,7 @@ kept-restore {s} k p = record {
   wire = λ y i. k .wire y (keep-mem _ (s .wire) i .0);
 }
 
-resent-fits : {s : State} {p q : ℕ} {x : Logged} {y : Packet} → x .message .sn ≤ most → Cause s p q x y → Fit (y .sn) (packets.tn-of (y .content))
+resent-fits : {s : State} {p q : ℕ} {x : Logged} {y : Packet} → x .message .sn ≤ number-limit → Cause s p q x y → Fit (y .sn) (packets.tn-of (y .content))
 unfolding about packets.tn-of
 resent-fits n (ask-here _ _ _ e) = subst (λ (y : Packet). Fit (y .sn) (packets.tn-of (y .content))) (sym e) (n, omega arith)
 resent-fits n (data-here _ _ _ e) = subst (λ (y : Packet). Fit (y .sn) (packets.tn-of (y .content))) (sym e) (n, omega arith)
@@ -404,14 +404,14 @@ unfolding holes-after state-after start no-holes blank
 kept-after moment = keep-along change-holes Kept kept-frame (λ s h k. record { holes = k .holes; live = k .live; copy = k .copy; notes = k .notes; wire = k .wire }) start no-holes moment
     (record { holes = λ c t. sym (no-hole 0 [] t); live = λ c. small-blank; copy = λ c. small-blank; notes = λ p. all-nil _; wire = all-nil _ })
 
--- Holes are what is read off `top`, height and table.
+-- Holes are what is read off `highest-at-restart`, height and table.
 pub holes-read-off : HolesReadOff
 holes-read-off moment c = read-off (state-after moment .live c) (kept-after moment .holes c)
 
 -- what question 7 asks of a work beside its sends
 pub record WorkFits (s : State) (c : ℕ) (e : Entry) : Type 0 where
-  pub height : leb (s .live c .height + 1) most ≡ true
-  pub mark : leb (questions.mark-after (s .live c) e) most ≡ true
+  pub height : leb (s .live c .height + 1) number-limit ≡ true
+  pub mark : leb (questions.mark-after (s .live c) e) number-limit ≡ true
 
 -- For every list of lines: where question 6 of a work finds an entry, these two are true. So an 07 of a work comes from its sends.
 pub work-fits : (moment : List Line) (c : ℕ) (e : Entry) → next-entry (state-after moment .live c) ≡ some e → WorkFits (state-after moment) c e
@@ -420,4 +420,4 @@ work-fits moment c e found =
     let m = kept-after moment .live c in
     let (i, q) = next-entry-some (state-after moment .live c) found in
     let (n, t) = m .table e i in
-    record { height = le-leb _ most (subst (_≤ most) q t); mark = le-leb _ most (marks-work (e .sn) (m .marks (e .sender)) n .mark) }
+    record { height = le-leb _ number-limit (subst (_≤ number-limit) q t); mark = le-leb _ number-limit (marks-work (e .sn) (m .marks (e .sender)) n .mark) }

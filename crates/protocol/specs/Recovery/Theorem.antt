@@ -28,7 +28,7 @@ use Rattle.protocol.specs.Restart as restarts
 use Rattle.protocol.specs.Frames.{Line, Frame, job, inject, deliver, work, checkpoint, crash, restart, show, frame}
 use Rattle.protocol.specs.Job.{machines-of, job-in-range, job-of, begin}
 use Rattle.protocol.specs.Questions as questions
-use Rattle.protocol.specs.Step.{Outcome, accept, crash-outcome, deliver-outcome, work-outcome, outcome, judged, play, step-frame, step, run}
+use Rattle.protocol.specs.Step.{Outcome, accept, crash-outcome, deliver-outcome, work-outcome, outcome, judged, play, step-frame, step, play-all}
 use Rattle.protocol.specs.CrashFree.{Run, crash-free}
 use Rattle.protocol.specs.History.{History, no-history, add-worked, recorded, is-accepted, record-frame, record-line, history-from, state-after, history-after}
 use Rattle.protocol.specs.Demand3.{Normal, Begins, Demand3}
@@ -105,8 +105,8 @@ pub record Reached {s : State} {h : History} (k : Kept s h) (t : State) (h′ : 
   pub kept : Kept t h′
   pub grows : (a : ℕ) → Prefix (k .carried .run .worked a) (kept .carried .run .worked a)
 
-stays : {s : State} {h : History} (k : Kept s h) → Reached k s h
-stays k = record { kept = k; grows = λ a. prefix-refl _ }
+unchanged : {s : State} {h : History} (k : Kept s h) → Reached k s h
+unchanged k = record { kept = k; grows = λ a. prefix-refl _ }
 
 -- the frame is accepted: machines that are done settle
 finish : {s : State} {h : History} (k : Kept s h) {t : State} {h′ : History} → Onward (k .carried) t h′ → Ranged t → Reached k (restarts.settle t) h′
@@ -317,14 +317,14 @@ module _ {s : State} {h : History} (k : Kept s h) where
   -- refused: nothing changes
   keep-judged : (f : Frame) (r : Result Outcome) → put-all (questions.questions s f) (outcome s f) ≡ r → Reached k (judged s r .state) (record-frame s h (some f) (is-accepted (judged s r .answer)))
   unfolding judged record-frame is-accepted
-  keep-judged f (refuse n) e = stays k
+  keep-judged f (refuse n) e = unchanged k
   keep-judged f (ok o) e =
       let (y, q) = put-ok (questions.questions s f) (outcome s f) o e in
       subst (λ o. Reached k (o .state) (record-frame s h (some f) (is-accepted (o .answer)))) q (keep-yes f y)
 
   keep-read : (o : Option Frame) → Reached k (step-frame s o .state) (record-frame s h o (is-accepted (step-frame s o .answer)))
   unfolding step-frame record-frame play
-  keep-read none = stays k
+  keep-read none = unchanged k
   keep-read (some f) = keep-judged f (put-all (questions.questions s f) (outcome s f)) refl
 
   pub keep-line : (l : Line) → Reached k (step s l .state) (record-line s h l)
@@ -332,9 +332,9 @@ module _ {s : State} {h : History} (k : Kept s h) where
   keep-line l = keep-read (frame l)
 
 -- ---- any list of lines
-pub keep-lines : {s : State} {h : History} (k : Kept s h) (ls : List Line) → Reached k (run s ls) (history-from s h ls)
-unfolding run history-from
-keep-lines k [] = stays k
+pub keep-lines : {s : State} {h : History} (k : Kept s h) (ls : List Line) → Reached k (play-all s ls) (history-from s h ls)
+unfolding play-all history-from
+keep-lines k [] = unchanged k
 keep-lines k (l ∷ ls) =
     let a = keep-line k l in
     let b = keep-lines (a .kept) ls in
@@ -349,13 +349,13 @@ unfolding state-after history-after
 kept-after ls = keep-lines kept-start ls .kept
 
 -- the state and the history after one list and then another
-run-append : (s : State) (a b : List Line) → run s (a ++ b) ≡ run (run s a) b
-unfolding run
+run-append : (s : State) (a b : List Line) → play-all s (a ++ b) ≡ play-all (play-all s a) b
+unfolding play-all
 run-append s [] b = refl
 run-append s (l ∷ a) b = run-append (step s l .state) a b
 
-history-append : (s : State) (h : History) (a b : List Line) → history-from s h (a ++ b) ≡ history-from (run s a) (history-from s h a) b
-unfolding run history-from
+history-append : (s : State) (h : History) (a b : List Line) → history-from s h (a ++ b) ≡ history-from (play-all s a) (history-from s h a) b
+unfolding play-all history-from
 history-append s h [] b = refl
 history-append s h (l ∷ a) b = history-append (step s l .state) (record-line s h l) a b
 

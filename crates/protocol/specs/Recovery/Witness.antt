@@ -13,7 +13,7 @@ use Rattle.protocol.specs.Lines.{lines}
 use Rattle.protocol.specs.Step.{answers}
 use Rattle.protocol.specs.History.{is-accepted, state-after}
 use Rattle.protocol.specs.Demand3.{Quiet, Holds}
-use Rattle.protocol.specs.Computing.{text, opened}
+use Rattle.protocol.specs.Cases.Computing.{text, opened}
 use Rattle.protocol.specs.Cases.{two, through, holed}
 use Rattle.protocol.specs.Recovery.LostFlag.{lost-flag}
 use Rattle.protocol.specs.Recovery.Along.{after-frame, along}

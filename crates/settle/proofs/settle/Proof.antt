@@ -1,5 +1,5 @@
 -- `settle::settle` meets its contract: the machines from p on are still to settle.
-use Rattle.lists.specs.Basics.{_≡_, refl, _+_, _-_, _≤_, arith, needs, length}
+use Rattle.lists.specs.Basics.{_≡_, _+_, _-_, _≤_, arith, needs, length}
 use Rattle.lists.specs.Counting.{counting}
 use Rattle.protocol.specs.{Parts.job-machines, Restart.{settle, settle-all}}
 use Rattle.store.specs.{Places.STORE, View.view}

@@ -1,5 +1,5 @@
 use Rattle.lists.specs.Basics.{ap, _∙_, map, arith, needs}
-use Rattle.protocol.specs.Tickets.{for-message, note-entry}
+use Rattle.protocol.specs.Tickets.{for-message, mark-noted}
 use Rattle.words.specs.Mapped.{change-at, change-no}
 use Rattle.tickets.specs.{Table.{entry-of, entries}, EntryLaws.by-name}
 use Rattle.tickets.proofs.note.Statement.{statement}
@@ -13,7 +13,7 @@ returns c =
     let r = m .before in
     let s = r .before .before .before .before .before in
     ap (map entry-of) (w .write .ensures .items)
-    ∙ change-at entry-of _ (for-message _ _) (by-name _ _ (search needs)) _ _ (s .seek .ensures) note-entry _ (omega arith) (m .noted .ensures ∙ ap (λ x. note-entry (entry-of x)) (r .read .ensures))
+    ∙ change-at entry-of _ (for-message _ _) (by-name _ _ (search needs)) _ _ (s .seek .ensures) mark-noted _ (omega arith) (m .noted .ensures ∙ ap (λ x. mark-noted (entry-of x)) (r .read .ensures))
 
 returns-2 : tie.Need-returns-2
 unfolding entries

@@ -1,11 +1,11 @@
 use Rattle.lists.specs.Basics.{_∙_, needs}
 use Rattle.tickets.specs.EntryLaws.{fitted-note}
-use Rattle.protocol.specs.Tickets.{note-entry}
+use Rattle.protocol.specs.Tickets.{mark-noted}
 use Rattle.tickets.proofs.noted.Statement.{statement}
 use Rattle.tickets.proofs.noted.Tie as tie
 
 returns : tie.Need-returns
-unfolding note-entry
+unfolding mark-noted
 returns c = c .pack .ensures ∙ fitted-note _ _ (c .before .unpack .ensures)
 
 pub noted-spec : {M : Type 1} → statement M

@@ -1,7 +1,7 @@
 -- `feed_on`: the invariant is that what was taken so far is read, and its answers written.
 use Rattle.lists.specs.Basics.{_++_, _≡_, sym, ap, _∙_, _+_, _-_, _≤_, _<_, arith, needs, length, take, drop, length-drop, length-take-le, take-all}
 use Rattle.store.specs.{Places.STORE, View.{view, outcome}}
-use Rattle.transcript.specs.{Reading.{LINE, line-room, within}, LineWise.{line-end, line-end-le, line-part}, Copies.take-min, Printed.printed-fits}
+use Rattle.transcript.specs.{Reading.{answer-room, LINE, line-room, within}, LineWise.{line-end, line-end-le, line-part}, Copies.take-min, Printed.printed-fits}
 use Rattle.transcript.specs.{Feeding.{Fed-so-far, nothing-yet, fed-turn, fed-stop, at-end, no-room}, View.{reading, fed}}
 use Rattle.transcript.proofs.feed_on.Statement.{statement}
 use Rattle.transcript.proofs.feed_on.Tie as tie
@@ -21,7 +21,7 @@ at f = f Inv-loop μ-loop
 abbrev start : at tie.At-loop → at tie.Start
 start c = c .before .before .before .before .before .before
 
-roomy : (c : at tie.Else1) → 15 ≤ length (start (c .before) .args .out .now) - c .before .loop .written
+roomy : (c : at tie.Else1) → answer-room ≤ length (start (c .before) .args .out .now) - c .before .loop .written
 roomy c = omega (arith, c .if1 .left, c .before .loop .inv .3)
 
 opened : (c : at tie.At-loop) → let a = start c .args in within (view (a .s .now)) (take (c .before .least .result) (a .line .now)) ≡ reading (a .s .now) (a .line .now) (a .n)
@@ -74,7 +74,7 @@ ends c = omega (arith, there (kept-place c .before .before .before), c .if2 .lef
 abbrev line-place : at tie.After-slice-known6 → at tie.Else2
 line-place c = c .before .before .before .before .before .before .before .before .before
 
-answer-fits : (c : at tie.After-put) → c .put .result ≤ 15
+answer-fits : (c : at tie.After-put) → c .put .result ≤ answer-room
 answer-fits c = omega (arith, c .put .ensures .0, printed-fits (c .before .before .before .before .step-on .result))
 
 -- ---- what is asked

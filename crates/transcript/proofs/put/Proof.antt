@@ -1,11 +1,11 @@
--- `put` writes the line of an answer. The invariant: i bytes are copied, of at most 15.
+-- `put` writes the line of an answer. The invariant: i bytes are copied, of at most the room for an answer.
 use Rattle.lists.specs.Basics.{_≡_, refl, _-_, _≤_, arith, needs, length, paste-zero}
-use Rattle.transcript.specs.{Copies.{Copied, copy-one}, Printed.{printed-fits, printed-count, printed-copied}}
+use Rattle.transcript.specs.{Reading.answer-room, Copies.{Copied, copy-one}, Printed.{printed-fits, printed-count, printed-copied}}
 use Rattle.transcript.proofs.put.Statement.{statement}
 use Rattle.transcript.proofs.put.Tie as tie
 
 abbrev Inv-loop : tie.InvT-loop
-Inv-loop out₀ at b n i₀ out i = (i ≤ n) × (n ≤ 15) × (length b ≡ 16) × Copied out₀ at b i out
+Inv-loop out₀ at b n i₀ out i = (i ≤ n) × (n ≤ answer-room) × (length b ≡ 16) × Copied out₀ at b i out
 
 abbrev μ-loop : tie.MeasureT-loop
 μ-loop out₀ at b n i₀ out i = n - i

@@ -2,7 +2,7 @@
 use Rattle.lists.specs.Basics.{none, _≡_, refl, sym, ap, _∙_, false, _-_, _<_, arith, mod-eq-of-lt, lt-leb, le-leb, lt-ltb, le-ltb, needs, not-true, not-false, length}
 use Rattle.lists.specs.Questions.{ok, put-all}
 use Rattle.arrays.specs.Front.{push}
-use Rattle.protocol.specs.{Parts.{Memory, most, table-room}, Packets.is-worked, Window.worked}
+use Rattle.protocol.specs.{Parts.{Memory, number-limit, table-room}, Packets.is-worked, Window.worked}
 use Rattle.protocol.specs.{Tickets.{entry, next-tn, new-tn, unreceived}, declared.Content.the-variants.GrantNew as GRANT-new}
 use Rattle.words.specs.Part.{part, part-length}
 use Rattle.tickets.specs.Table.{found-entry}
@@ -135,7 +135,7 @@ returns-3 c =
     let t = c .before .before in
     let w = worked-of t in
     refusing (start-of w .args .m .now) _ _ 7 (omega arith) (c .refused .ensures)
-    (ask-new _ _ _ (tn-at t) refl (no-entry w) (not-worked (else-of t)) (lt-leb (t .next-tn .result) most (omega arith)) refl refl) refl
+    (ask-new _ _ _ (tn-at t) refl (no-entry w) (not-worked (else-of t)) (lt-leb (t .next-tn .result) number-limit (omega arith)) refl refl) refl
 
 admitted-requires : tie.Need-admitted-requires
 admitted-requires c κs = search needs
@@ -154,7 +154,7 @@ returns-4 c =
     let w = worked-of t in
     refusing (start-of w .args .m .now) _ _ 8 (omega arith) (c .refused2 .ensures)
     (ask-new _ _ _ (tn-at t) (w .before .before .before .mark .ensures) (no-entry w) (not-worked (else-of t))
-    (le-leb (t .next-tn .result) most (omega arith)) (sym (d .admitted .ensures) ∙ not-true _ (c .before .if3 .taken)) refl) refl
+    (le-leb (t .next-tn .result) number-limit (omega arith)) (sym (d .admitted .ensures) ∙ not-true _ (c .before .if3 .taken)) refl) refl
 
 sub-count : tie.Need-sub-count
 sub-count c = search needs
@@ -184,7 +184,7 @@ returns-5 c =
     let a = start-of w .args in
     refusing (a .m .now) _ _ 10 (omega arith) (c .refused3 .ensures)
     (ask-new _ _ _ (tn-at t) (w .before .before .before .mark .ensures) (no-entry w) (not-worked (else-of t))
-    (le-leb (t .next-tn .result) most (omega arith)) (sym (d .admitted .ensures) ∙ not-false _ (n .before .before .before .if3 .left)) (le-ltb (length (memory-view (a .m .now) .table)) table-room (rw table-part (omega (arith, n .count .ensures))))) refl
+    (le-leb (t .next-tn .result) number-limit (omega arith)) (sym (d .admitted .ensures) ∙ not-false _ (n .before .before .before .if3 .left)) (le-ltb (length (memory-view (a .m .now) .table)) table-room (rw table-part (omega (arith, n .count .ensures))))) refl
 
 cast-n : tie.Need-cast-n
 cast-n c = search needs
@@ -224,7 +224,7 @@ returns-6 c =
     (ap (λ m. ok (answering m (GRANT-new (t .next-tn .result)))) (table-changed (a .m .now) (x .enter .last .0) size (omega arith) (λ l. push 16 l (unreceived (a .sender) (a .sn) (t .next-tn .result))) (rw (z, mod-eq-of-lt (start-of w .pre .1)) at (x .enter .ensures)))
     ∙ ap ok (entered _ _ _ (tn-at t) room)
     ∙ ask-new _ _ _ (tn-at t) (w .before .before .before .mark .ensures) (no-entry w) (not-worked (else-of t))
-    (le-leb (t .next-tn .result) most (omega arith)) (sym (d .admitted .ensures) ∙ not-false _ (n .before .before .before .if3 .left)) (lt-ltb _ table-room room))
+    (le-leb (t .next-tn .result) number-limit (omega arith)) (sym (d .admitted .ensures) ∙ not-false _ (n .before .before .before .if3 .left)) (lt-ltb _ table-room room))
 
 pub ask-spec : {M : Type 1} → statement M
 ask-spec =

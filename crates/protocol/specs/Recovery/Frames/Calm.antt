@@ -17,7 +17,7 @@ use Rattle.protocol.specs.declared.Lookup.the-variants.{Missing, Tickete
 use Rattle.protocol.specs.Parts.{Memory, State}
 use Rattle.protocol.specs.Setters.{with-memory}
 use Rattle.protocol.specs.Sending.{is-local, put, next-message, log-message, send-remote, send-local, send-message, send, send-all}
-use Rattle.protocol.specs.Packets.{reply, new-table, new-log, ask, grant-old, grant-received, grant-new, data-in, note, ack, arrive, deliver}
+use Rattle.protocol.specs.Packets.{reply, new-table, new-log, ask, grant-old, grant-received, grant-new, data-in, store-note, ack, arrive, deliver}
 use Rattle.protocol.specs.CrashFree.{Run}
 use Rattle.protocol.specs.History.{History}
 use Rattle.protocol.specs.Recovery.Invariant.Good.{Told}
@@ -111,7 +111,7 @@ calm-data s y v h none = calm-refl s
 calm-data s y v h (some e) = either (e .received) (λ z. rw z (calm-refl s)) (λ z. rw z (calm-table s (y .receiver) _))
 
 calm-arrive : (s : State) (y : Packet) (c : Content) → Calm s (arrive s y c)
-unfolding arrive note ack
+unfolding arrive store-note ack
 calm-arrive s y ASK = calm-ask s y _ _
 calm-arrive s y GRANT-old = calm-old s y _
 calm-arrive s y (GRANT-received t) = calm-received s y t _

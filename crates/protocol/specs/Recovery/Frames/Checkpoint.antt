@@ -15,7 +15,7 @@ use Rattle.protocol.specs.declared.Logged.{Logged}
 use Rattle.protocol.specs.declared.Status.the-variants.{Up, Down}
 use Rattle.protocol.specs.Parts.{Job, Memory, State, on, up, at-home}
 use Rattle.protocol.specs.Setters.{with-table, with-log}
-use Rattle.protocol.specs.Checkpoint.{pruned, prune, fix-copy, stays, clean-log, clean-logs, checkpoint}
+use Rattle.protocol.specs.Checkpoint.{pruned, prune, fix-copy, stays-in-log, clean-log, clean-logs, checkpoint}
 use Rattle.protocol.specs.Restart.{is-ticketed-above}
 use Rattle.protocol.specs.Frames.{checkpoint as checkpoint-frame}
 use Rattle.protocol.specs.CrashFree.{Run}
@@ -144,13 +144,13 @@ module _ {p : Pending} (s : State) (x : Run) (stable : ℕ → ℕ) (ok : RunOk 
     (reached : (r : ℕ) → s .job .home r ≡ q → s .live r .height ≤ stable r) where
   -- the logs of a machine that is down are not there to be cleaned
   remains : ℕ → Logged → Bool
-  remains a = cond (up s (s .job .home a)) (stays s q) (λ _. true)
+  remains a = cond (up s (s .job .home a)) (stays-in-log s q) (λ _. true)
 
   abbrev cleaned : ℕ → Memory
   cleaned a = with-log (g .mem a) (keep (remains a) (g .mem a .log))
 
-  goes-low : (y : Logged) → stays s q y ≡ false → (y .tn ≢ 0) × (y .tn ≤ stable (y .message .receiver))
-  unfolding stays on
+  goes-low : (y : Logged) → stays-in-log s q y ≡ false → (y .tn ≢ 0) × (y .tn ≤ stable (y .message .receiver))
+  unfolding stays-in-log on
   goes-low y e =
       let r = y .message .receiver in
       let (h, n, k) = leaves (eqb (s .job .home r) q) (eqb (y .tn) 0) (ltb (y .tn) (s .live r .height)) e in
@@ -167,8 +167,8 @@ module _ {p : Pending} (s : State) (x : Run) (stable : ℕ → ℕ) (ok : RunOk 
   clean-inv = logs-clean ok (g .inv) remains (λ a _ y _. remains-low a y) cleaned (λ a _. refl)
 
   -- a message to a chare of a machine that is down stays
-  stays-elsewhere : (c h : ℕ) → s .status (s .job .home c) ≡ Down → (y : Logged) → is-ticketed-above c h y ≡ true → stays s q y ≡ true
-  unfolding stays on is-ticketed-above
+  stays-elsewhere : (c h : ℕ) → s .status (s .job .home c) ≡ Down → (y : Logged) → is-ticketed-above c h y ≡ true → stays-in-log s q y ≡ true
+  unfolding stays-in-log on is-ticketed-above
   stays-elsewhere c h d y e =
       let r = eqb-true (y .message .receiver) c (and-l _ _ e) in
       rw (ne-eqb (s .job .home (y .message .receiver)) q (λ z. is-on (ap (s .status) (sym z ∙ ap (s .job .home) r) ∙ d)))
@@ -176,7 +176,7 @@ module _ {p : Pending} (s : State) (x : Run) (stable : ℕ → ℕ) (ok : RunOk 
   same-tickets : SameTickets s (clean-log s q)
   unfolding clean-log
   same-tickets c a k d _ = either (up s (s .job .home a))
-      (λ u. rw u (keep-within (is-ticketed-above c (s .copy c .height)) (stays s q) (s .live a .log) (stays-elsewhere c (s .copy c .height) d)))
+      (λ u. rw u (keep-within (is-ticketed-above c (s .copy c .height)) (stays-in-log s q) (s .live a .log) (stays-elsewhere c (s .copy c .height) d)))
       (λ u. rw u)
 
   clean-up : (c : ℕ) → s .status (s .job .home c) ≢ Down → cleaned c ≡ clean-log s q c
@@ -189,7 +189,7 @@ module _ {p : Pending} (s : State) (x : Run) (stable : ℕ → ℕ) (ok : RunOk 
 
   clean-silent : (a : ℕ) → s .live a .log ≡ [] → clean-log s q a .log ≡ []
   unfolding clean-log keep
-  clean-silent a e = either (up s (s .job .home a)) (λ u. rw u (ap (keep (stays s q)) e)) (λ u. rw u e)
+  clean-silent a e = either (up s (s .job .home a)) (λ u. rw u (ap (keep (stays-in-log s q)) e)) (λ u. rw u e)
 
   clean-good : Good p (clean-logs s q) x stable
   unfolding clean-logs

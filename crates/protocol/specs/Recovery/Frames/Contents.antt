@@ -23,10 +23,10 @@ use Rattle.protocol.specs.declared.Lookup.the-variants.{Missing, Tickete
 use Rattle.protocol.specs.declared.Status.the-variants.{Up, Down}
 use Rattle.protocol.specs.Parts.{State}
 use Rattle.protocol.specs.Setters.{with-table, with-log, with-notes}
-use Rattle.protocol.specs.Window.{admitted}
-use Rattle.protocol.specs.Tickets.{entry, for-message, new-tn, unreceived, filled, note-entry}
+use Rattle.protocol.specs.Window.{admitted, width}
+use Rattle.protocol.specs.Tickets.{entry, for-message, new-tn, unreceived, filled, mark-noted}
 use Rattle.protocol.specs.Sending.{is-local}
-use Rattle.protocol.specs.Packets.{new-table, new-log, ask, for-receiver, ticketed, set-tn, grant-old, grant-received, grant-new, data-in, note, note-of, same-note, is-noted, ack, is-worked, entry-of, lookup-of}
+use Rattle.protocol.specs.Packets.{new-table, new-log, ask, for-receiver, ticketed, set-tn, grant-old, grant-received, grant-new, data-in, store-note, note-of, same-note, has-note, ack, is-worked, entry-of, lookup-of}
 use Rattle.protocol.specs.Restart.{is-ticketed-above}
 use Rattle.protocol.specs.CrashFree.{Run}
 use Rattle.protocol.specs.Recovery.Run.Facts.{Sent, RunOk}
@@ -44,7 +44,7 @@ use Rattle.protocol.specs.Recovery.Steps.Log.{log-ticket, log-remove}
 use Rattle.protocol.specs.Recovery.Steps.Notes.{note-add}
 use Rattle.protocol.specs.Recovery.Invariant.Senders.{key-sender, key-receiver}
 use Rattle.protocol.specs.Recovery.Steps.Settle.{logged-tick}
-use Rattle.protocol.specs.Recovery.Frames.States.{now, good-reply, live, good-table, good-log, good-notes}
+use Rattle.protocol.specs.Recovery.Frames.States.{world-now, good-reply, live, good-table, good-log, good-notes}
 
 named : {a r n : ℕ} (m : Message) → m .sender ≡ a → m .receiver ≡ r → m .sn ≡ n → m ≡ record { sender = a; receiver = r; sn = n; value = m .value; hops = m .hops }
 named m e f g i = record { sender = e i; receiver = f i; sn = g i; value = m .value; hops = m .hops }
@@ -99,7 +99,7 @@ module _ {p : Pending} {s : State} {x : Run} {stable : ℕ → ℕ} (ok : RunOk 
 
     new-entry : is-local (s .job) (y .sender) (y .receiver) ≡ false → entry-of s y ≡ none → is-worked (s .live (y .receiver)) (y .sender) (y .sn) ≡ false
         → admitted (s .live (y .receiver) .mark (y .sender)) (y .sn) ≡ true
-        → NewEntry (now g) (y .receiver) (unreceived (y .sender) (y .sn) (new-tn (s .live (y .receiver))))
+        → NewEntry (world-now g) (y .receiver) (unreceived (y .sender) (y .sn) (new-tn (s .live (y .receiver))))
     unfolding entry-of unreceived admitted
     new-entry remote empty w a =
         let r = y .receiver in
@@ -110,14 +110,14 @@ module _ {p : Pending} {s : State} {x : Run} {stable : ℕ → ℕ} (ok : RunOk 
           free = subst (λ m. All (λ f. f .tn ≢ new-tn (s .live r)) (m .table)) (sym mem) (new-tn-free (s .live r));
           unknown = subst (λ m. All (λ f. entry-key f ≢ (y .sender, y .sn)) (m .table)) (sym mem) (entry-none (s .live r .table) (y .sender) (y .sn) empty);
           unworked = λ i. true-not-false (subst (λ m. is-worked m (y .sender) (y .sn) ≡ true) mem (in-worked {m = g .mem r} (g .inv .images .image r chare .marks) i)) w;
-          near = subst (λ m. y .sn ≤ m .mark (y .sender) + 64) (sym mem) (leb-true _ _ a);
+          near = subst (λ m. y .sn ≤ m .mark (y .sender) + width) (sym mem) (leb-true _ _ a);
           local = λ e. true-not-false refl e;
           unnoted = λ e. true-not-false e remote;
           next = λ e. true-not-false e remote;
         }
 
     -- a new ticket
-    module _ (f : Fits (now g) (y .sender) (y .receiver) (y .sn) ASK) (empty : entry-of s y ≡ none) (w : is-worked (s .live (y .receiver)) (y .sender) (y .sn) ≡ false)
+    module _ (f : Fits (world-now g) (y .sender) (y .receiver) (y .sn) ASK) (empty : entry-of s y ≡ none) (w : is-worked (s .live (y .receiver)) (y .sender) (y .sn) ≡ false)
         (a : admitted (s .live (y .receiver) .mark (y .sender)) (y .sn) ≡ true) where
       abbrev e : Entry
       e = unreceived (y .sender) (y .sn) (new-tn (s .live (y .receiver)))
@@ -127,7 +127,7 @@ module _ {p : Pending} {s : State} {x : Run} {stable : ℕ → ℕ} (ok : RunOk 
 
       added : Good p (new-table s (y .receiver) l) x stable
       added = good-table g (y .receiver) u l
-          (subst (λ m. InvP p (put-table (now g) (y .receiver) (m .table ++ (e ∷ [])))) mem (table-add (g .inv) (y .receiver) chare e (new-entry f empty w a)))
+          (subst (λ m. InvP p (put-table (world-now g) (y .receiver) (m .table ++ (e ∷ [])))) mem (table-add (g .inv) (y .receiver) chare e (new-entry f empty w a)))
 
       ask-new : Good p (ask s y none false) x stable
       unfolding ask new-table unreceived added good-table
@@ -143,7 +143,7 @@ module _ {p : Pending} {s : State} {x : Run} {stable : ℕ → ℕ} (ok : RunOk 
         u,
       )
 
-    pub keep-ask : Fits (now g) (y .sender) (y .receiver) (y .sn) ASK → (o : Option Entry) → entry-of s y ≡ o → (w : Bool) → is-worked (s .live (y .receiver)) (y .sender) (y .sn) ≡ w
+    pub keep-ask : Fits (world-now g) (y .sender) (y .receiver) (y .sn) ASK → (o : Option Entry) → entry-of s y ≡ o → (w : Bool) → is-worked (s .live (y .receiver)) (y .sender) (y .sn) ≡ w
         → (o ≡ none → w ≡ false → admitted (s .live (y .receiver) .mark (y .sender)) (y .sn) ≡ true) → Good p (ask s y o w) x stable
     unfolding ask entry-of
     keep-ask f (some e) found w q a =
@@ -157,7 +157,7 @@ module _ {p : Pending} {s : State} {x : Run} {stable : ℕ → ℕ} (ok : RunOk 
     keep-ask f none found false q a = ask-new f found q (a refl refl)
 
   -- ---- DATA: the sender's log has the entry's TN
-  module _ (u : s .status (s .job .home (y .receiver)) ≢ Down) (v h : ℕ) (f : Fits (now g) (y .sender) (y .receiver) (y .sn) (DATA v h)) where
+  module _ (u : s .status (s .job .home (y .receiver)) ≢ Down) (v h : ℕ) (f : Fits (world-now g) (y .sender) (y .receiver) (y .sn) (DATA v h)) where
     logged-entry : (e : Entry) → e ∈ g .mem (y .receiver) .table → stable (y .receiver) < e .tn → e .sender ≡ y .sender → e .sn ≡ y .sn
         → s .status (s .job .home (y .sender)) ≡ Up → LoggedAs (g .mem (y .sender) .log) (y .receiver) (y .sn) (e .tn)
     logged-entry e i o a b up = elim (f .2 up) [
@@ -173,7 +173,7 @@ module _ {p : Pending} {s : State} {x : Run} {stable : ℕ → ℕ} (ok : RunOk 
     data-some e found z =
         let (i, a, b) = entry-some (s .live (y .receiver) .table) (y .sender) (y .sn) found in
         good-table g (y .receiver) u _
-        (subst (λ m. InvP p (put-table (now g) (y .receiver) (filled (y .sender) (y .sn) v h (m .table)))) (mem u)
+        (subst (λ m. InvP p (put-table (world-now g) (y .receiver) (filled (y .sender) (y .sn) v h (m .table)))) (mem u)
         (table-fill (g .inv) (y .receiver) chare (y .sender) (y .sn) v h e (ap (λ m. entry (m .table) (y .sender) (y .sn)) (mem u) ∙ found) (f .1)
         (λ l. true-not-false l (f .0)) (λ o _ up. logged-entry e (subst (λ m. e ∈ m .table) (sym (mem u)) i) o a b up)))
 
@@ -207,13 +207,13 @@ module _ {p : Pending} {s : State} {x : Run} {stable : ℕ → ℕ} (ok : RunOk 
         (λ q. absurd (v (subst (λ r. s .status (s .job .home r) ≡ Down) (sym (eqb-true _ _ q) ∙ eqb-true _ _ (and-l _ _ e)) d)))
         (λ q. rw q)
 
-    pub keep-old : Fits (now g) (y .sender) (y .receiver) (y .sn) GRANT-old → (o : Lookup) → lookup-of s y ≡ o → Good p (grant-old s y o) x stable
+    pub keep-old : Fits (world-now g) (y .sender) (y .receiver) (y .sn) GRANT-old → (o : Lookup) → lookup-of s y ≡ o → Good p (grant-old s y o) x stable
     unfolding grant-old
     keep-old f Missing e = g
     keep-old f HasTicket e = g
     keep-old f (Unticketed m) e = good-log g (y .sender) u sender (remove1 (for-receiver (y .receiver) (y .sn)) log)
         (λ c _ d. keep-remove1 _ _ log (elsewhere c d))
-        (subst (λ m. InvP p (put-mem (now g) (upd (y .sender) (with-log (g .mem (y .sender)) (remove1 (for-receiver (y .receiver) (y .sn)) (m .log))) (g .mem)))) from
+        (subst (λ m. InvP p (put-mem (world-now g) (upd (y .sender) (with-log (g .mem (y .sender)) (remove1 (for-receiver (y .receiver) (y .sn)) (m .log))) (g .mem)))) from
         (log-remove ok (g .inv) (y .sender) (y .receiver) (y .sn) sender (f .1)))
 
     -- received or new: the TN is set
@@ -226,7 +226,7 @@ module _ {p : Pending} {s : State} {x : Run} {stable : ℕ → ℕ} (ok : RunOk 
       unfolding grant-received ticketed
       set = good-log g (y .sender) u sender (ticketed (y .receiver) (y .sn) t log)
           (λ c _ d. keep-change1 _ _ _ log (λ z q. (elsewhere c d z q, ticketed-elsewhere t c d z q)))
-          (subst (λ m. InvP p (put-mem (now g) (upd (y .sender) (with-log (g .mem (y .sender)) (ticketed (y .receiver) (y .sn) t (m .log))) (g .mem)))) from
+          (subst (λ m. InvP p (put-mem (world-now g) (upd (y .sender) (with-log (g .mem (y .sender)) (ticketed (y .receiver) (y .sn) t (m .log))) (g .mem)))) from
           (log-ticket ok (g .inv) (y .sender) (y .receiver) (y .sn) t (waits .logged) sender
           (ap (λ m. find (for-receiver (y .receiver) (y .sn)) (m .log)) from ∙ waits .found) (waits .no-tn) (tick-some ok (g .inv) chare tick) tick))
 
@@ -273,18 +273,18 @@ module _ {p : Pending} {s : State} {x : Run} {stable : ℕ → ℕ} (ok : RunOk 
     keep-new t q f (Unticketed m) e = set-sends t q m e f
 
   -- ---- NOTE
-  module _ (t : ℕ) (f : Fits (now g) (y .sender) (y .receiver) (y .sn) (NOTE t)) where
+  module _ (t : ℕ) (f : Fits (world-now g) (y .sender) (y .receiver) (y .sn) (NOTE t)) where
     abbrev home : ℕ
     home = s .job .home (y .receiver)
 
     -- the notes, and their list with this one
     abbrev notes : List Note
-    notes = cond (is-noted (s .notes home) (note-of y t)) (s .notes home) (s .notes home ++ (note-of y t ∷ []))
+    notes = cond (has-note (s .notes home) (note-of y t)) (s .notes home) (s .notes home ++ (note-of y t ∷ []))
 
     stored-is : NotedAs notes (y .sender) (y .receiver) (y .sn) t
-    unfolding is-noted same-note note-of
-    stored-is = split (λ b. is-noted (s .notes home) (note-of y t) ≡ b → NotedAs (cond b (s .notes home) (s .notes home ++ (note-of y t ∷ []))) (y .sender) (y .receiver) (y .sn) t)
-        (is-noted (s .notes home) (note-of y t))
+    unfolding has-note same-note note-of
+    stored-is = split (λ b. has-note (s .notes home) (note-of y t) ≡ b → NotedAs (cond b (s .notes home) (s .notes home ++ (note-of y t ∷ []))) (y .sender) (y .receiver) (y .sn) t)
+        (has-note (s .notes home) (note-of y t))
         (λ _ e.
         let (n, i, q) = anyb-true _ (s .notes home) e in
         let (a, b, c, d) = and4 _ _ _ _ q in
@@ -294,13 +294,13 @@ module _ {p : Pending} {s : State} {x : Run} {stable : ℕ → ℕ} (ok : RunOk 
     unfoldable stored : Good p (with-notes s (upd home notes (s .notes))) x stable
     unfolding good-notes note-of
     stored = good-notes g home (f .3) notes
-        (split (λ b. InvP p (put-notes (now g) (upd home (cond b (s .notes home) (s .notes home ++ (note-of y t ∷ []))) (s .notes))))
-        (is-noted (s .notes home) (note-of y t))
+        (split (λ b. InvP p (put-notes (world-now g) (upd home (cond b (s .notes home) (s .notes home ++ (note-of y t ∷ []))) (s .notes))))
+        (has-note (s .notes home) (note-of y t))
         (λ _. rw (upd-self home (s .notes)) (g .inv))
         (λ _. note-add (g .inv) home (note-of y t) (f .0, chare, refl, f .1)))
 
-    pub keep-note : Good p (note s y t) x stable
-    unfolding note stored good-notes
+    pub keep-note : Good p (store-note s y t) x stable
+    unfolding store-note stored good-notes
     keep-note = good-reply stored y ACK k (
       f .0,
       f .2,
@@ -309,8 +309,8 @@ module _ {p : Pending} {s : State} {x : Run} {stable : ℕ → ℕ} (ok : RunOk 
     )
 
   -- ---- ACK
-  pub keep-ack : s .status (s .job .home (y .receiver)) ≢ Down → Fits (now g) (y .sender) (y .receiver) (y .sn) ACK → Good p (ack s y) x stable
+  pub keep-ack : s .status (s .job .home (y .receiver)) ≢ Down → Fits (world-now g) (y .sender) (y .receiver) (y .sn) ACK → Good p (ack s y) x stable
   unfolding ack
   keep-ack u f = good-table g (y .receiver) u _
-      (subst (λ m. InvP p (put-table (now g) (y .receiver) (change1 (for-message (y .sender) (y .sn)) note-entry (m .table)))) (mem u)
+      (subst (λ m. InvP p (put-table (world-now g) (y .receiver) (change1 (for-message (y .sender) (y .sn)) mark-noted (m .table)))) (mem u)
       (table-note (g .inv) (y .receiver) chare (y .sender) (y .sn) (λ _. f .2)))

@@ -22,7 +22,7 @@ use Rattle.protocol.specs.Recovery.Invariant.Clauses.{Fits, PacketOk}
 use Rattle.protocol.specs.Recovery.Invariant.Good.{Good}
 use Rattle.protocol.specs.Recovery.Invariant.Later.{packet-later}
 use Rattle.protocol.specs.Recovery.Steps.Wire.{wire-less, later-wire}
-use Rattle.protocol.specs.Recovery.Frames.States.{now, good-wire}
+use Rattle.protocol.specs.Recovery.Frames.States.{world-now, good-wire}
 use Rattle.protocol.specs.Recovery.Frames.Contents.{keep-ask, keep-old, keep-received, keep-new, keep-data, keep-note, keep-ack}
 
 -- question 8, for an ASK without entry whose SN is not worked
@@ -33,8 +33,8 @@ asked : (s : State) (y : Packet) → ticket-admitted s y ≡ true → Admits s y
 unfolding ticket-admitted needs-ticket no-entry
 asked s y q k e w = rw (k, e, w) at q
 
-module _ {p : Pending} {s : State} {x : Run} {stable : ℕ → ℕ} (ok : RunOk (s .job) x) (g : Good p s x stable) (y : Packet) (h : PacketOk (now g) y) where
-  keep-arrive : (c : Content) → Fits (now g) (y .sender) (y .receiver) (y .sn) c
+module _ {p : Pending} {s : State} {x : Run} {stable : ℕ → ℕ} (ok : RunOk (s .job) x) (g : Good p s x stable) (y : Packet) (h : PacketOk (world-now g) y) where
+  keep-arrive : (c : Content) → Fits (world-now g) (y .sender) (y .receiver) (y .sn) c
       → s .status (destination (s .job) (kind c) (y .sender) (y .receiver)) ≢ Down → Admits s y c → Good p (arrive s y c) x stable
   unfolding arrive destination kind
   keep-arrive ASK f u q = keep-ask ok g y (h .key) u f _ refl _ refl (q refl)
@@ -58,7 +58,7 @@ module _ {p : Pending} {s : State} {x : Run} {stable : ℕ → ℕ} (ok : RunOk 
 
   pub keep-packet : s .status (goes-to (s .job) y) ≢ Down → ticket-admitted s y ≡ true → Good p (arrive (with-wire s l) y (y .content)) x stable
   unfolding good-wire
-  keep-packet u q = keep-content ok (good-wire g l (wire-less (g .inv) l part)) y (packet-later (later-wire (now g) l) y (g .inv .wire y i)) u (same-question ∙ q)
+  keep-packet u q = keep-content ok (good-wire g l (wire-less (g .inv) l part)) y (packet-later (later-wire (world-now g) l) y (g .inv .wire y i)) u (same-question ∙ q)
 
 pub keep-deliver : {p : Pending} {s : State} {x : Run} {stable : ℕ → ℕ} → RunOk (s .job) x → Good p s x stable → (k a r n : ℕ) (y : Packet) → y ∈ s .wire
     → s .status (goes-to (s .job) y) ≢ Down → ticket-admitted s y ≡ true → Good p (deliver s k a r n y) x stable

@@ -2,13 +2,13 @@
 use mathlib.Core.Path.{_≡_, refl, sym, ap, _∙_, subst, subst₂}
 use mathlib.Core.Bool.{Bool, true, false, cond, _&&_}
 use mathlib.Core.Logic.{inl, inr, _≢_}
-use mathlib.Core.List.{List, [], _∷_, List·Memᴰ·head as here, List·Memᴰ·tail as there, List·Memᴰ·not-nil, List·Memᴰ·cases-cons}
-use Prim.Native.Nat.{ℕ, zero, suc, _+_, _≤_, _<_}
+use mathlib.Core.List.{List, [], List·Memᴰ·not-nil}
+use Prim.Native.Nat.{ℕ, zero, suc, _≤_}
 use native.Mathlib.Omega.{arith}
 use lib.Dec.{eqb, leb}
 use lib.ListN.{take}
 use borrow.Author.Tests.{eqb-true, eqb-false, eq-eqb, leb-true, le-leb}
-use Rattle.lists.specs.Tests.{either, eq?, true-not-false, and-l, and-r, and-i}
+use Rattle.lists.specs.Tests.{either, true-not-false, and-l, and-r, and-i}
 use Rattle.lists.specs.Lists.{_∈_, All, all-nil, all-cons, all-append, keep, mem-keep, allb, allb-true}
 use Rattle.lists.specs.Keys.{nodup-nil}
 use Rattle.lists.specs.Counting.{counting, mem-counting, counting-mem}

@@ -16,7 +16,7 @@ use Rattle.protocol.specs.declared.Entry.{Entry}
 use Rattle.protocol.specs.declared.Status.the-variants.{Down}
 use Rattle.protocol.specs.Parts.{Memory, State}
 use Rattle.protocol.specs.Setters.{with-table, with-log, with-sn, with-live}
-use Rattle.protocol.specs.Window.{admitted}
+use Rattle.protocol.specs.Window.{admitted, width}
 use Rattle.protocol.specs.Tickets.{entry, for-message, new-tn, fill, filled}
 use Rattle.protocol.specs.Sending.{is-local, about, next-message, log-message, send-remote, local-entry, send-local}
 use Rattle.protocol.specs.Packets.{new-table}
@@ -33,7 +33,7 @@ use Rattle.protocol.specs.Recovery.Invariant.Silent.{silent-memory}
 use Rattle.protocol.specs.Recovery.Steps.Retable.{put-table}
 use Rattle.protocol.specs.Recovery.Steps.Table.{NewEntry, table-add, table-fill}
 use Rattle.protocol.specs.Recovery.Steps.Log.{to-send, next-of, owed-next, log-append}
-use Rattle.protocol.specs.Recovery.Frames.States.{now, good-put, live, good-table}
+use Rattle.protocol.specs.Recovery.Frames.States.{world-now, good-put, live, good-table}
 use Rattle.protocol.specs.Recovery.Invariant.Homes.{local-home}
 
 -- ---- two changes of a map, one a table's and one a log's, in either order
@@ -80,7 +80,7 @@ module _ {s : State} {x : Run} {stable : ℕ → ℕ} (ok : RunOk (s .job) x) (a
   from : g .mem a ≡ s .live a
   from = live g a u
 
-  same-next : next-of (now g) a r v h ≡ message
+  same-next : next-of (world-now g) a r v h ≡ message
   unfolding next-message
   same-next = ap (λ k. record { sender = a; receiver = r; sn = k .sn r + 1; value = v; hops = h }) from
 
@@ -99,8 +99,8 @@ module _ {s : State} {x : Run} {stable : ℕ → ℕ} (ok : RunOk (s .job) x) (a
       → Good (to-send a l v h) (log-message s message t) x stable
   unfolding log-message next-message
   good-logged t tick local unseen = record {
-    mem = upd a (logs (next-of (now g) a r v h) t (g .mem a)) (g .mem);
-    linked = linked-memory (g .linked) a u (logs message t (s .live a)) (logs (next-of (now g) a r v h) t (g .mem a))
+    mem = upd a (logs (next-of (world-now g) a r v h) t (g .mem a)) (g .mem);
+    linked = linked-memory (g .linked) a u (logs message t (s .live a)) (logs (next-of (world-now g) a r v h) t (g .mem a))
         (ap (λ k. logs (record { sender = a; receiver = r; sn = k .sn r + 1; value = v; hops = h }) t k) from)
         (λ c k d. keep-snoc _ (s .live a .log) _ (unseen c k d));
     inv = log-append a r l v h ok (g .inv) t (λ z. subst (λ k. Tick x (g .mem) r a (k .sn r + 1) t) (sym from) (tick z)) local;
@@ -141,17 +141,17 @@ module _ {s : State} {x : Run} {stable : ℕ → ℕ} (ok : RunOk (s .job) x) (a
 
       same-table : logged .mem r .table ≡ s .live r .table
       unfolding logged good-logged
-      same-table = upd-ind (λ c k. k .table ≡ g .mem c .table) a (logs (next-of (now g) a r v h) (e .tn) (g .mem a)) (g .mem) refl (λ c _. refl) r ∙ ap (λ k. k .table) (live g r arrives)
+      same-table = upd-ind (λ c k. k .table ≡ g .mem c .table) a (logs (next-of (world-now g) a r v h) (e .tn) (g .mem a)) (g .mem) refl (λ c _. refl) r ∙ ap (λ k. k .table) (live g r arrives)
 
       new-count : logged .mem a .sn r ≡ n
       unfolding logged good-logged
-      new-count = rw (upd-same a (logs (next-of (now g) a r v h) (e .tn) (g .mem a)) (g .mem), upd-same r (g .mem a .sn r + 1) (g .mem a .sn)) (ap (λ k. k .sn r + 1) from)
+      new-count = rw (upd-same a (logs (next-of (world-now g) a r v h) (e .tn) (g .mem a)) (g .mem), upd-same r (g .mem a .sn r + 1) (g .mem a .sn)) (ap (λ k. k .sn r + 1) from)
 
       pub keep-found : Good (to-send a l v h) (send-local s message (some e)) x stable
       unfolding send-local next-message log-message new-table
       keep-found = subst (λ s. Good (to-send a l v h) s x stable) (sym (table-log s r (filled a n v h (s .live r .table)) message (e .tn)))
           (good-table logged r arrives (filled a n v h (s .live r .table))
-          (subst (λ T. InvP (to-send a l v h) (put-table (now logged) r (filled a n v h T))) same-table
+          (subst (λ T. InvP (to-send a l v h) (put-table (world-now logged) r (filled a n v h T))) same-table
           (table-fill (logged .inv) r next-chare a n v h e (ap (λ T. entry T a n) same-table ∙ found) sent-next (λ _. let c = new-count in omega arith) (λ _ z. true-not-false f z))))
 
 -- ---- a new ticket is entered for a local message, and a NOTE goes out
@@ -188,7 +188,7 @@ module _ {s : State} {x : Run} {stable : ℕ → ℕ} (ok : RunOk (s .job) x) (a
   unknown : All (λ e. entry-key e ≢ (a, sn)) table
   unknown = entry-none table a sn empty
 
-  new-ticket : NewEntry (now g) r ticket
+  new-ticket : NewEntry (world-now g) r ticket
   unfolding admitted
   new-ticket =
       let here-mem = live g r up-there in
@@ -200,7 +200,7 @@ module _ {s : State} {x : Run} {stable : ℕ → ℕ} (ok : RunOk (s .job) x) (a
         free = subst (λ k. All (λ e. e .tn ≢ tn) (k .table)) (sym here-mem) (new-tn-free (s .live r));
         unknown = subst (λ k. All (λ e. entry-key e ≢ (a, sn)) (k .table)) (sym here-mem) unknown;
         unworked = λ i. let b = g .inv .ordered .worked r a sn (next-chare ok a r l v h g u) f i in let c = ap (λ k. k .sn r) from-mem in omega arith;
-        near = subst (λ k. sn ≤ k .mark a + 64) (sym here-mem) (leb-true _ _ near);
+        near = subst (λ k. sn ≤ k .mark a + width) (sym here-mem) (leb-true _ _ near);
         local = λ _. f;
         unnoted = λ _. refl;
         next = λ _. let c = ap (λ k. k .sn r) from-mem in omega arith;
@@ -208,7 +208,7 @@ module _ {s : State} {x : Run} {stable : ℕ → ℕ} (ok : RunOk (s .job) x) (a
 
   entered : Good (to-send a (r ∷ l) v h) (new-table s r (table ++ (ticket ∷ []))) x stable
   entered = good-table g r up-there (table ++ (ticket ∷ []))
-      (subst (λ k. InvP (to-send a (r ∷ l) v h) (put-table (now g) r (k .table ++ (ticket ∷ [])))) (live g r up-there) (table-add (g .inv) r (next-chare ok a r l v h g u) ticket new-ticket))
+      (subst (λ k. InvP (to-send a (r ∷ l) v h) (put-table (world-now g) r (k .table ++ (ticket ∷ [])))) (live g r up-there) (table-add (g .inv) r (next-chare ok a r l v h g u) ticket new-ticket))
 
   -- the state with the ticket entered
   abbrev next : State

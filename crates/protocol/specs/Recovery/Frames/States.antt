@@ -41,17 +41,17 @@ is-up s p desk e = elim (or-cases (eqb p 0) _ e) [
 ]
 
 module _ {p : Pending} {s : State} {x : Run} {stable : ℕ → ℕ} (g : Good p s x stable) where
-  abbrev pub now : World
-  now = world s x stable (g .mem)
+  abbrev pub world-now : World
+  world-now = world s x stable (g .mem)
 
-  unfoldable pub good-wire : (l : List Packet) → InvP p (put-wire now l) → Good p (with-wire s l) x stable
+  unfoldable pub good-wire : (l : List Packet) → InvP p (put-wire world-now l) → Good p (with-wire s l) x stable
   good-wire l i = record { mem = g .mem; linked = linked-wire (g .linked) l; inv = i; silent = g .silent }
 
-  pub good-put : (y : Packet) → PacketOk now y → Good p (put s y) x stable
+  pub good-put : (y : Packet) → PacketOk world-now y → Good p (put s y) x stable
   unfolding put
   good-put y h = good-wire (s .wire ++ (y ∷ [])) (wire-put (g .inv) y h)
 
-  pub good-reply : (y : Packet) (c : Content) → SentKey x (y .sender) (y .receiver) (y .sn) → Fits now (y .sender) (y .receiver) (y .sn) c → Good p (reply s y c) x stable
+  pub good-reply : (y : Packet) (c : Content) → SentKey x (y .sender) (y .receiver) (y .sn) → Fits world-now (y .sender) (y .receiver) (y .sn) c → Good p (reply s y c) x stable
   unfolding reply
   good-reply y c k f = good-put _ (record { key = k; fits = f })
 
@@ -60,7 +60,7 @@ module _ {p : Pending} {s : State} {x : Run} {stable : ℕ → ℕ} (g : Good p 
     pub live : g .mem r ≡ s .live r
     live = g .linked .up r u
 
-    unfoldable pub good-table : (l : List Entry) → InvP p (put-table now r l) → Good p (new-table s r l) x stable
+    unfoldable pub good-table : (l : List Entry) → InvP p (put-table world-now r l) → Good p (new-table s r l) x stable
     unfolding new-table
     good-table l i = record {
       mem = upd r (with-table (g .mem r) l) (g .mem);
@@ -72,7 +72,7 @@ module _ {p : Pending} {s : State} {x : Run} {stable : ℕ → ℕ} (g : Good p 
     unfoldable pub good-log : Sender (s .job) r → (l : List Logged)
         → ((c : ℕ) → Chare (s .job) c → s .status (s .job .home c) ≡ Down
         → keep (is-ticketed-above c (s .copy c .height)) l ≡ keep (is-ticketed-above c (s .copy c .height)) (s .live r .log))
-        → InvP p (put-mem now (upd r (with-log (g .mem r) l) (g .mem))) → Good p (new-log s r l) x stable
+        → InvP p (put-mem world-now (upd r (with-log (g .mem r) l) (g .mem))) → Good p (new-log s r l) x stable
     unfolding new-log
     good-log k l same i = record {
       mem = upd r (with-log (g .mem r) l) (g .mem);
@@ -81,5 +81,5 @@ module _ {p : Pending} {s : State} {x : Run} {stable : ℕ → ℕ} (g : Good p 
       silent = silent-memory s (g .silent) r (with-log (s .live r) l) (inl k);
     }
 
-  unfoldable pub good-notes : (m : ℕ) → s .status m ≢ Down → (l : List Note) → InvP p (put-notes now (upd m l (s .notes))) → Good p (with-notes s (upd m l (s .notes))) x stable
+  unfoldable pub good-notes : (m : ℕ) → s .status m ≢ Down → (l : List Note) → InvP p (put-notes world-now (upd m l (s .notes))) → Good p (with-notes s (upd m l (s .notes))) x stable
   good-notes m u l i = record { mem = g .mem; linked = linked-notes (g .linked) m u l; inv = i; silent = g .silent }

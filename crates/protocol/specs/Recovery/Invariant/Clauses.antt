@@ -24,7 +24,7 @@ use Rattle.protocol.specs.History.{message-of}
 use Rattle.protocol.specs.Recovery.Run.Fold.{folded}
 use Rattle.protocol.specs.Recovery.Run.Facts.{Sent}
 use Rattle.protocol.specs.Recovery.Laws.Marks.{In, Reach, Marked}
-use Rattle.protocol.specs.Recovery.Invariant.World.{World, Pending, counted, Owed, Place, Entered, Tick, Stable, SentKey, InLog, LoggedAs, Ticketed, Kept}
+use Rattle.protocol.specs.Recovery.Invariant.World.{World, Pending, counted, Owed, Place, HasEntry, Tick, Stable, SentKey, InLog, LoggedAs, HasTicket, Kept}
 use Rattle.protocol.specs.Recovery.Laws.Lookups.{entry-key, logged-key}
 
 -- c is a chare of the job: it has a machine
@@ -138,7 +138,7 @@ pub record Copy (j : Job) (x : Run) (stable : ℕ → ℕ) (mem copy : ℕ → M
   pub kept : All (λ y. y .tn ≢ 0 → LoggedAs (mem c .log) (y .message .receiver) (y .message .sn) (y .tn)
       ⊎ ((y .tn ≤ stable (y .message .receiver)) × Place (x .worked (y .message .receiver)) (y .tn) c (y .message .sn))) (copy c .log)
   pub local : All (λ y. is-local j c (y .message .receiver) ≡ true → copy (y .message .receiver) .height < y .tn
-      → Entered (copy (y .message .receiver) .table) c (y .message .sn) (y .tn)) (copy c .log)
+      → HasEntry (copy (y .message .receiver) .table) c (y .message .sn) (y .tn)) (copy c .log)
   pub table : All (λ e. (copy c .height < e .tn) × Tick x mem c (e .sender) (e .sn) (e .tn)) (copy c .table)
 
 abbrev pub Copies : Job → Run → (ℕ → ℕ) → (ℕ → Memory) → (ℕ → Bool) → (ℕ → Memory) → Type 0
@@ -163,7 +163,7 @@ Fits w s r n (GRANT-new t) = (is-local (w .job) s r ≡ false) × Tick (w .run) 
 Fits w s r n (DATA v h) =
     (is-local (w .job) s r ≡ false)
     × Sent (w .run) (record { sender = s; receiver = r; sn = n; value = v; hops = h })
-    × (w .status (w .job .home s) ≡ Up → Ticketed (w .mem s .log) r n ⊎ Stable (w .run) (w .stable) r s n)
+    × (w .status (w .job .home s) ≡ Up → HasTicket (w .mem s .log) r n ⊎ Stable (w .run) (w .stable) r s n)
 Fits w s r n (NOTE t) =
     (is-local (w .job) s r ≡ true) × Tick (w .run) (w .mem) r s n t × (n ≤ w .mem s .sn r) × (w .status (w .job .home r) ≢ Down)
 Fits w s r n ACK =

@@ -18,12 +18,12 @@ use Rattle.protocol.specs.declared.Status.the-variants.{Up, Down}
 use Rattle.protocol.specs.Parts.{Job}
 use Rattle.protocol.specs.Sending.{is-local}
 use Rattle.protocol.specs.Recovery.Run.Facts.{Sent}
-use Rattle.protocol.specs.Recovery.Invariant.World.{World, Tick, Stable, SentKey, Ticketed, Kept}
+use Rattle.protocol.specs.Recovery.Invariant.World.{World, Tick, Stable, SentKey, HasTicket, Kept}
 use Rattle.protocol.specs.Recovery.Invariant.Clauses.{Log, Notes, Acks, Fits, PacketOk}
 
 -- what DATA from s to r with SN n says of the sender's log; what an ACK says of the receiver's entries
 abbrev pub Backed : World → ℕ → ℕ → ℕ → Type 0
-Backed w s r n = w .status (w .job .home s) ≡ Up → Ticketed (w .mem s .log) r n ⊎ Stable (w .run) (w .stable) r s n
+Backed w s r n = w .status (w .job .home s) ≡ Up → HasTicket (w .mem s .log) r n ⊎ Stable (w .run) (w .stable) r s n
 
 abbrev pub Acked : World → ℕ → ℕ → ℕ → Type 0
 Acked w s r n = w .held (w .job .home r) ≡ true → Acks w s r n (w .mem r .table)
@@ -85,7 +85,7 @@ module _ {w v : World} (h : Later w v) where
 -- no machine becomes normal, and what is ticketed in a log stays so or is stable
 pub still-backed : (w v : World)
     → ((p : ℕ) → v .status p ≡ Up → w .status p ≡ Up)
-    → ((s r n : ℕ) → Ticketed (w .mem s .log) r n → Ticketed (v .mem s .log) r n ⊎ Stable (v .run) (v .stable) r s n)
+    → ((s r n : ℕ) → HasTicket (w .mem s .log) r n → HasTicket (v .mem s .log) r n ⊎ Stable (v .run) (v .stable) r s n)
     → ((r s n : ℕ) → Stable (w .run) (w .stable) r s n → Stable (v .run) (v .stable) r s n)
     → (s r n : ℕ) → Backed w s r n → Backed (put-job v (w .job)) s r n
 still-backed w v normal ticketed stable s r n b u = elim (b (normal _ u)) [ inl t ↦ ticketed s r n t | inr t ↦ inr (stable r s n t) ]

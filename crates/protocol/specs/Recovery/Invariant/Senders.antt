@@ -17,7 +17,7 @@ use Rattle.protocol.specs.Parts.{Job, Memory}
 use Rattle.protocol.specs.Sending.{is-local}
 use Rattle.protocol.specs.CrashFree.{Run}
 use Rattle.protocol.specs.Recovery.Laws.Marks.{In}
-use Rattle.protocol.specs.Recovery.Invariant.World.{World, put-mem, Pending, counted, Owed, Entered, Tick, SentKey, LoggedAs, Ticketed}
+use Rattle.protocol.specs.Recovery.Invariant.World.{World, put-mem, Pending, counted, Owed, HasEntry, Tick, SentKey, LoggedAs, HasTicket}
 use Rattle.protocol.specs.Recovery.Invariant.Clauses.{Chare, Sender, Domain, Image, Images, Heights, Table, Tables, Ordered, Remembered, Noted, Log, Logs, Copies, Notes, Fits, InvP}
 
 -- what is sent is from a sender to a chare
@@ -44,7 +44,7 @@ module _ {p : Pending} {w : World} (inv : InvP p w) (mem : ℕ → Memory) (same
 
   tick : {r s n t : ℕ} → Chare (w .job) r → Tick (w .run) (w .mem) r s n t → Tick (w .run) mem r s n t
   tick k (inl h) = inl h
-  tick {r} {s} {n} {t} k (inr h) = inr (put (λ m. Entered (m .table) s n t) (inr k) h)
+  tick {r} {s} {n} {t} k (inr h) = inr (put (λ m. HasEntry (m .table) s n t) (inr k) h)
 
   images : Images (w .job) (w .run) p mem
   images = record {
@@ -125,7 +125,7 @@ module _ {p : Pending} {w : World} (inv : InvP p w) (mem : ℕ → Memory) (same
   fits s r n GRANT-old a b h = h
   fits s r n (GRANT-received t) a b h = (h .0, tick b (h .1), h .2)
   fits s r n (GRANT-new t) a b h = (h .0, tick b (h .1), h .2)
-  fits s r n (DATA v g) a b h = (h .0, h .1, λ u. elim (h .2 u) [ inl k ↦ inl (put (λ m. Ticketed (m .log) r n) a k) | inr k ↦ inr k ])
+  fits s r n (DATA v g) a b h = (h .0, h .1, λ u. elim (h .2 u) [ inl k ↦ inl (put (λ m. HasTicket (m .log) r n) a k) | inr k ↦ inr k ])
   fits s r n (NOTE t) a b h = (h .0, tick b (h .1), put (λ m. n ≤ m .sn r) a (h .2), h .3)
   fits s r n ACK a b h = (h .0, put (λ m. n ≤ m .sn r) a (h .1), λ u e i. h .2 u e (old b i))
 

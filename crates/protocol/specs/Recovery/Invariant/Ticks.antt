@@ -13,7 +13,7 @@ use Rattle.protocol.specs.Parts.{Memory}
 use Rattle.protocol.specs.CrashFree.{Run}
 use Rattle.protocol.specs.Recovery.Run.Facts.{message-key}
 use Rattle.protocol.specs.Recovery.Laws.Marks.{In}
-use Rattle.protocol.specs.Recovery.Invariant.World.{World, Pending, Place, Entered, Tick, Stable}
+use Rattle.protocol.specs.Recovery.Invariant.World.{World, Pending, Place, HasEntry, Tick, Stable}
 use Rattle.protocol.specs.Recovery.Invariant.Clauses.{Chare, Table, InvP}
 use Rattle.protocol.specs.Recovery.Laws.Places.{place-mono, place-in, place-bound, place-same, place-once}
 use Rattle.protocol.specs.Recovery.Laws.Lookups.{entry-key}
@@ -22,7 +22,7 @@ pub tick-run : (x y : Run) (mem : ℕ → Memory) (r : ℕ) {s n t : ℕ} → ((
 tick-run x y mem r g (inl p) = inl (place-mono (g r) p)
 tick-run x y mem r g (inr e) = inr e
 
-pub tick-mem : (x : Run) (mem mem′ : ℕ → Memory) (r : ℕ) → ((s n t : ℕ) → Entered (mem r .table) s n t → Entered (mem′ r .table) s n t) → {s n t : ℕ} → Tick x mem r s n t → Tick x mem′ r s n t
+pub tick-mem : (x : Run) (mem mem′ : ℕ → Memory) (r : ℕ) → ((s n t : ℕ) → HasEntry (mem r .table) s n t → HasEntry (mem′ r .table) s n t) → {s n t : ℕ} → Tick x mem r s n t → Tick x mem′ r s n t
 tick-mem x mem mem′ r g (inl p) = inl p
 tick-mem x mem mem′ r g {s} {n} {t} (inr e) = inr (g s n t e)
 
@@ -31,14 +31,14 @@ stable-mono {r = r} g h p = let a = h r in let b = p .low in record { tn = p .tn
 
 module _ {x : Run} {r h : ℕ} {l : List Entry} (table : Table x r h l) {s n t : ℕ} where
   -- a ticket that the run has reached was worked
-  pub tick-place : t ≤ length (x .worked r) → Place (x .worked r) t s n ⊎ Entered l s n t → Place (x .worked r) t s n
+  pub tick-place : t ≤ length (x .worked r) → Place (x .worked r) t s n ⊎ HasEntry l s n t → Place (x .worked r) t s n
   tick-place k (inl p) = p
   tick-place k (inr p) =
       let e = p .of-tn in
       subst₃ (Place (x .worked r)) (p .of-tn) (p .of-sender) (p .of-sn) (table .past (p .entry) (p .member) (omega arith))
 
   -- a ticket above the stable height has an entry
-  pub tick-entered : h < t → Place (x .worked r) t s n ⊎ Entered l s n t → Entered l s n t
+  pub tick-entered : h < t → Place (x .worked r) t s n ⊎ HasEntry l s n t → HasEntry l s n t
   tick-entered k (inr p) = p
   tick-entered k (inl p) =
       let last = place-bound p .1 in
@@ -54,17 +54,17 @@ module _ {x : Run} {r h : ℕ} {l : List Entry} (distinct : NoDup message-key (x
     | inr k ↦ place-once distinct (table .past e i k) (subst (λ s. Place (x .worked r) t s (e .sn)) (sym a) (subst (Place (x .worked r) t s) (sym b) p))
   ]
 
-  pub entered-entry : {s n t : ℕ} → Entered l s n t → (e : Entry) → e ∈ l → e .sender ≡ s → e .sn ≡ n → e .tn ≡ t
+  pub entered-entry : {s n t : ℕ} → HasEntry l s n t → (e : Entry) → e ∈ l → e .sender ≡ s → e .sn ≡ n → e .tn ≡ t
   entered-entry p e i a b =
       let k : entry-key e ≡ entry-key (p .entry) = λ i. ((a ∙ sym (p .of-sender)) i, (b ∙ sym (p .of-sn)) i) in
       ap (λ (e : Entry). e .tn) (uniq entry-key (table .keys) i (p .member) k) ∙ p .of-tn
 
-  pub tick-entry : {s n t : ℕ} → Place (x .worked r) t s n ⊎ Entered l s n t → (e : Entry) → e ∈ l → e .sender ≡ s → e .sn ≡ n → e .tn ≡ t
+  pub tick-entry : {s n t : ℕ} → Place (x .worked r) t s n ⊎ HasEntry l s n t → (e : Entry) → e ∈ l → e .sender ≡ s → e .sn ≡ n → e .tn ≡ t
   tick-entry (inl p) = place-entry p
   tick-entry (inr p) = entered-entry p
 
   -- a message that was worked has no other ticket
-  pub tick-once : {s n t u : ℕ} → Place (x .worked r) t s n → Place (x .worked r) u s n ⊎ Entered l s n u → t ≡ u
+  pub tick-once : {s n t u : ℕ} → Place (x .worked r) t s n → Place (x .worked r) u s n ⊎ HasEntry l s n u → t ≡ u
   tick-once p (inl q) = place-once distinct p q
   tick-once p (inr q) = sym (place-entry p (q .entry) (q .member) (q .of-sender) (q .of-sn)) ∙ q .of-tn
 

@@ -88,7 +88,7 @@ pub record Place (l : List Message) (t s n : ℕ) : Type 0 where
   pub of-sn : message .sn ≡ n
 
 -- the table has an entry for sender s and SN n with TN t
-pub record Entered (l : List Entry) (s n t : ℕ) : Type 0 where
+pub record HasEntry (l : List Entry) (s n t : ℕ) : Type 0 where
   pub entry : Entry
   pub member : entry ∈ l
   pub of-sender : entry .sender ≡ s
@@ -97,7 +97,7 @@ pub record Entered (l : List Entry) (s n t : ℕ) : Type 0 where
 
 -- t is the ticket of message (s, n) at r: it was worked there in the run, or the table has it
 abbrev pub Tick : Run → (ℕ → Memory) → ℕ → ℕ → ℕ → ℕ → Type 0
-Tick x mem r s n t = Place (x .worked r) t s n ⊎ Entered (mem r .table) s n t
+Tick x mem r s n t = Place (x .worked r) t s n ⊎ HasEntry (mem r .table) s n t
 
 -- message (s, n) was worked at r at or below the copied height
 pub record Stable (x : Run) (stable : ℕ → ℕ) (r s n : ℕ) : Type 0 where
@@ -129,7 +129,7 @@ pub record LoggedAs (l : List Logged) (r n t : ℕ) : Type 0 where
   pub of-tn : logged .tn ≡ t
 
 -- the same, with some TN
-pub record Ticketed (l : List Logged) (r n : ℕ) : Type 0 where
+pub record HasTicket (l : List Logged) (r n : ℕ) : Type 0 where
   pub tn : ℕ
   pub some-tn : tn ≢ 0
   pub found : LoggedAs l r n tn
@@ -144,4 +144,4 @@ pub record NotedAs (l : List Note) (s r n t : ℕ) : Type 0 where
 
 -- ticket t of (s, n) at r is safe with r's buddy: among the notes for r's machine, or in the copied table
 abbrev pub Kept : Job → (ℕ → Memory) → (ℕ → List Note) → ℕ → ℕ → ℕ → ℕ → Type 0
-Kept j copy notes r s n t = NotedAs (notes (j .home r)) s r n t ⊎ Entered (copy r .table) s n t
+Kept j copy notes r s n t = NotedAs (notes (j .home r)) s r n t ⊎ HasEntry (copy r .table) s n t

@@ -204,7 +204,7 @@ module _ (s : State) (p c : ℕ) where
   pub filled-table-the : {a n t : ℕ} → Source s p c a n t → ((u : ℕ) → Source s p c a n u → u ≡ t) → (y : Entry) × (y ∈ filled-table s p c) × SameTicket (unreceived a n t) y
   filled-table-the r agree = mem-filled-table (restored-the s p c r agree)
 
-  -- `top` is the highest TN at the restart
-  pub restored-top : restored s p c .top ≡ highest (restored s p c .height) (restored s p c .table)
+  -- `highest-at-restart` is the highest TN at the restart
+  pub restored-top : restored s p c .highest-at-restart ≡ highest (restored s p c .height) (restored s p c .table)
   unfolding restored
   restored-top = refl

@@ -12,7 +12,7 @@ use Rattle.lists.specs.Tests.{either, eq?, lt?, and-l, and-r, not-true}
 use Rattle.lists.specs.Lists.{anyb, anyb-true, anyb-false, true-anyb, keep, change1}
 use Rattle.protocol.specs.declared.Entry.{Entry}
 use Rattle.protocol.specs.Parts.{Memory}
-use Rattle.protocol.specs.Tickets.{has-tn, note-entry, lowest-hole}
+use Rattle.protocol.specs.Tickets.{has-tn, mark-noted, lowest-hole}
 use Rattle.protocol.specs.Working.{next-entry, work-entry}
 use Rattle.protocol.specs.Checkpoint.{above-height, pruned}
 use Rattle.protocol.specs.Recovery.Holes.{is-hole, Lowest, ReadOff}
@@ -21,7 +21,7 @@ use Rattle.protocol.specs.Recovery.Laws.Lookups.{next-entry-some}
 
 -- the holes of a memory
 abbrev pub holes-of : Memory → ℕ → Bool
-holes-of m = is-hole (m .height) (m .top) (m .table)
+holes-of m = is-hole (m .height) (m .highest-at-restart) (m .table)
 
 -- ---- what changes of a table do to its holes
 -- an entry that keeps its TN
@@ -70,8 +70,8 @@ holes-work m e found t =
     ]
 
 -- entries at or below the height go
-entered-pruned : (h t : ℕ) → h < t → (l : List Entry) → anyb (has-tn t) (map note-entry (keep (above-height h) l)) ≡ anyb (has-tn t) l
-unfolding anyb has-tn keep above-height note-entry
+entered-pruned : (h t : ℕ) → h < t → (l : List Entry) → anyb (has-tn t) (map mark-noted (keep (above-height h) l)) ≡ anyb (has-tn t) l
+unfolding anyb has-tn keep above-height mark-noted
 entered-pruned h t a [] = refl
 entered-pruned h t a (e ∷ l) = either (ltb h (e .tn))
     (λ q. rw (q, entered-pruned h t a l))
@@ -113,5 +113,5 @@ module _ (h top : ℕ) (l : List Entry) where
 pub read-off : {h : ℕ → Bool} (m : Memory) → ((t : ℕ) → h t ≡ holes-of m t) → ReadOff h m
 read-off m k = record {
   same = k;
-  lowest = subst (λ g. Lowest g (lowest-hole (m .height) (m .top) (m .table))) (sym (fun-ext k)) (lowest-is (m .height) (m .top) (m .table) _ refl);
+  lowest = subst (λ g. Lowest g (lowest-hole (m .height) (m .highest-at-restart) (m .table))) (sym (fun-ext k)) (lowest-is (m .height) (m .highest-at-restart) (m .table) _ refl);
 }

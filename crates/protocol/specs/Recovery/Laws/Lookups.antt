@@ -16,7 +16,7 @@ use Rattle.protocol.specs.declared.Logged.{Logged}
 use Rattle.protocol.specs.declared.Entry.{Entry}
 use Rattle.protocol.specs.declared.Lookup.the-variants.{Missing, Ticketed, Unticketed}
 use Rattle.protocol.specs.Parts.{Memory}
-use Rattle.protocol.specs.Tickets.{for-message, entry, has-tn, fill, filled, note-entry}
+use Rattle.protocol.specs.Tickets.{for-message, entry, has-tn, fill, filled, mark-noted}
 use Rattle.protocol.specs.Working.{next-entry}
 use Rattle.protocol.specs.Packets.{for-receiver, looked-up, lookup, set-tn, ticketed}
 use Rattle.protocol.specs.Recovery.Laws.Changes.{Key, Tests, Changed, pair-true, true-pair, no-key, change-old, change-other, change-mem, mem-change, remove-mem, mem-remove}
@@ -144,21 +144,21 @@ module _ (s n value hops : ℕ) where
 
 -- ---- with it noted
 module _ (s n : ℕ) where
-  pub noted-old : {y : Entry} (l : List Entry) → y ∈ change1 (for-message s n) note-entry l → (y ∈ l) ⊎ ((x : Entry) × (x ∈ l) × (entry-key x ≡ (s, n)) × (y ≡ note-entry x))
-  noted-old = change-old (tests-entry s n) note-entry
+  pub noted-old : {y : Entry} (l : List Entry) → y ∈ change1 (for-message s n) mark-noted l → (y ∈ l) ⊎ ((x : Entry) × (x ∈ l) × (entry-key x ≡ (s, n)) × (y ≡ mark-noted x))
+  noted-old = change-old (tests-entry s n) mark-noted
 
-  pub noted-mem : {y : Entry} (l : List Entry) → NoDup entry-key l → y ∈ change1 (for-message s n) note-entry l → Changed entry-key (s, n) note-entry l y
-  noted-mem = change-mem (tests-entry s n) note-entry
+  pub noted-mem : {y : Entry} (l : List Entry) → NoDup entry-key l → y ∈ change1 (for-message s n) mark-noted l → Changed entry-key (s, n) mark-noted l y
+  noted-mem = change-mem (tests-entry s n) mark-noted
 
-  pub mem-noted : {x : Entry} {l : List Entry} → NoDup entry-key l → x ∈ l → entry-key x ≡ (s, n) → note-entry x ∈ change1 (for-message s n) note-entry l
-  mem-noted = mem-change (tests-entry s n) note-entry
+  pub mem-noted : {x : Entry} {l : List Entry} → NoDup entry-key l → x ∈ l → entry-key x ≡ (s, n) → mark-noted x ∈ change1 (for-message s n) mark-noted l
+  mem-noted = mem-change (tests-entry s n) mark-noted
 
-  pub noted-other : {x : Entry} {l : List Entry} → x ∈ l → entry-key x ≢ (s, n) → x ∈ change1 (for-message s n) note-entry l
-  noted-other = change-other (tests-entry s n) note-entry
+  pub noted-other : {x : Entry} {l : List Entry} → x ∈ l → entry-key x ≢ (s, n) → x ∈ change1 (for-message s n) mark-noted l
+  noted-other = change-other (tests-entry s n) mark-noted
 
-  pub nodup-noted : (l : List Entry) → NoDup entry-key l → NoDup entry-key (change1 (for-message s n) note-entry l)
-  unfolding note-entry
-  nodup-noted l = nodup-change1 entry-key (for-message s n) note-entry l (λ x. refl)
+  pub nodup-noted : (l : List Entry) → NoDup entry-key l → NoDup entry-key (change1 (for-message s n) mark-noted l)
+  unfolding mark-noted
+  nodup-noted l = nodup-change1 entry-key (for-message s n) mark-noted l (λ x. refl)
 
 -- ---- a log with the TN of the message to r with SN n set to t
 module _ (r n t : ℕ) where

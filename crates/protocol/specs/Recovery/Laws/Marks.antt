@@ -13,7 +13,7 @@ use Rattle.lists.specs.Lists.{_∈_, anyb, anyb-true, true-anyb, Prefix}
 use Rattle.protocol.specs.declared.Message.{Message}
 use Rattle.protocol.specs.declared.Entry.{Entry}
 use Rattle.protocol.specs.Parts.{Memory}
-use Rattle.protocol.specs.Window.{Bits, admitted, worked, in-window, bit-set, ones, rise, risen-mark, slid-window}
+use Rattle.protocol.specs.Window.{Bits, admitted, worked, in-window, bit-set, ones, rise, risen-mark, slid-window, width}
 use Rattle.protocol.specs.Working.{work-entry}
 use Rattle.protocol.specs.Packets.{is-worked}
 use Rattle.protocol.specs.History.{message-of}
@@ -98,18 +98,18 @@ ones-is (suc k) w = either (w 0)
 -- ---- mark k and window w of sender s are those of the list of messages worked
 pub record Side (k : ℕ) (w : Bits) (l : List Message) (s : ℕ) : Type 0 where
   pub below : (n : ℕ) → 1 ≤ n → n ≤ k → In l s n
-  pub bits : (i : ℕ) → i < 64 → w i ≡ has l s (k + 1 + i)
-  pub beyond : (i : ℕ) → 64 ≤ i → w i ≡ false
-  pub within : (n : ℕ) → In l s n → n ≤ k + 64
+  pub bits : (i : ℕ) → i < width → w i ≡ has l s (k + 1 + i)
+  pub beyond : (i : ℕ) → width ≤ i → w i ≡ false
+  pub within : (n : ℕ) → In l s n → n ≤ k + width
   pub next : has l s (k + 1) ≡ false
   pub positive : (n : ℕ) → In l s n → 1 ≤ n
 
 -- the same of every sender: mark and windows of a memory are those of the list
 pub record Marked (m : Memory) (l : List Message) : Type 0 where
   pub below : (s n : ℕ) → 1 ≤ n → n ≤ m .mark s → In l s n
-  pub bits : (s i : ℕ) → i < 64 → m .window s i ≡ has l s (m .mark s + 1 + i)
-  pub beyond : (s i : ℕ) → 64 ≤ i → m .window s i ≡ false
-  pub within : (s n : ℕ) → In l s n → n ≤ m .mark s + 64
+  pub bits : (s i : ℕ) → i < width → m .window s i ≡ has l s (m .mark s + 1 + i)
+  pub beyond : (s i : ℕ) → width ≤ i → m .window s i ≡ false
+  pub within : (s n : ℕ) → In l s n → n ≤ m .mark s + width
   pub next : (s : ℕ) → has l s (m .mark s + 1) ≡ false
   pub positive : (s n : ℕ) → In l s n → 1 ≤ n
 
@@ -151,9 +151,9 @@ pub marked-same : {m : Memory} {l : List Message} (k : Memory) → k .mark ≡ m
 marked-same {l = l} k p q h = sides k (λ s. subst₂ (λ (a : ℕ) (w : Bits). Side a w l s) (sym (ap (λ f. f s) p)) (sym (ap (λ f. f s) q)) (side h s))
 
 -- the mark rises by the run of ones, and the window slides
-slide : {k r : ℕ} {w : Bits} {l : List Message} {s : ℕ} → Ones 64 w r → ((n : ℕ) → 1 ≤ n → n ≤ k → In l s n)
-    → ((i : ℕ) → i < 64 → w i ≡ has l s (k + 1 + i)) → ((i : ℕ) → 64 ≤ i → w i ≡ false)
-    → ((n : ℕ) → In l s n → n ≤ k + 64) → ((n : ℕ) → In l s n → 1 ≤ n) → Side (k + r) (λ i. w (r + i)) l s
+slide : {k r : ℕ} {w : Bits} {l : List Message} {s : ℕ} → Ones width w r → ((n : ℕ) → 1 ≤ n → n ≤ k → In l s n)
+    → ((i : ℕ) → i < width → w i ≡ has l s (k + 1 + i)) → ((i : ℕ) → width ≤ i → w i ≡ false)
+    → ((n : ℕ) → In l s n → n ≤ k + width) → ((n : ℕ) → In l s n → 1 ≤ n) → Side (k + r) (λ i. w (r + i)) l s
 slide {k} {r} {w} {l} {s} run low bit out in-reach pos = record {
   below = λ n p q. elim (lt? k n) [
     | inl a ↦
@@ -163,33 +163,33 @@ slide {k} {r} {w} {l} {s} run low bit out in-reach pos = record {
         has-true l s n (sym (ap (has l s) e) ∙ sym (bit (n - k - 1) (omega arith)) ∙ run .set (n - k - 1) i)
     | inr a ↦ low n p a
   ];
-  bits = λ i h. elim (lt? (r + i) 64) [
+  bits = λ i h. elim (lt? (r + i) width) [
     | inl a ↦ let e : k + 1 + (r + i) ≡ k + r + 1 + i = omega arith in bit (r + i) a ∙ ap (has l s) e
     | inr a ↦ out (r + i) a ∙ sym (above (k + r + 1 + i) (omega arith))
   ];
   beyond = λ i h. out (r + i) (omega arith);
   within = λ n h. let q = in-reach n h in omega arith;
-  next = elim (lt? r 64) [
+  next = elim (lt? r width) [
     | inl a ↦ let e : k + 1 + r ≡ k + r + 1 = omega arith in sym (ap (has l s) e) ∙ sym (bit r a) ∙ run .stops a
     | inr a ↦ above (k + r + 1) (omega arith)
   ];
   positive = pos;
 }
   where
-    above : (n : ℕ) → k + 64 < n → has l s n ≡ false
+    above : (n : ℕ) → k + width < n → has l s n ≡ false
     above n h = false-has l s n (λ i. let q = in-reach n i in omega arith)
 
 -- one more message worked
 side-work : {k : ℕ} {w : Bits} {l : List Message} (x : Message) → Side k w l (x .sender) → 1 ≤ x .sn → has l (x .sender) (x .sn) ≡ false
-    → x .sn ≤ k + 64 → Side (risen-mark k w (x .sn)) (slid-window k w (x .sn)) (l ++ (x ∷ [])) (x .sender)
+    → x .sn ≤ k + width → Side (risen-mark k w (x .sn)) (slid-window k w (x .sn)) (l ++ (x ∷ [])) (x .sender)
 unfolding risen-mark slid-window rise in-window admitted bit-set
 side-work {k} {w} {l} x h pos new near =
     let above : k < x .sn = elim (lt? k (x .sn)) [ inl a ↦ a | inr a ↦ absurd (has-false new (h .below (x .sn) pos a)) ] in
-    let inside : (ltb k (x .sn) && leb (x .sn) (k + 64)) ≡ true = and-i _ _ (lt-ltb _ _ above) (le-leb _ _ near) in
+    let inside : (ltb k (x .sn) && leb (x .sn) (k + width)) ≡ true = and-i _ _ (lt-ltb _ _ above) (le-leb _ _ near) in
     rw inside (slide
-    (ones-is 64 _)
+    (ones-is width _)
     (λ n p q. in-append _ (h .below n p q))
-    (upd-ind (λ i v. i < 64 → v ≡ has (l ++ (x ∷ [])) (x .sender) (k + 1 + i)) (x .sn - k - 1) true w
+    (upd-ind (λ i v. i < width → v ≡ has (l ++ (x ∷ [])) (x .sender) (k + 1 + i)) (x .sn - k - 1) true w
     (λ _. let e : k + 1 + (x .sn - k - 1) ≡ x .sn = omega arith in sym (ap (has _ _) e ∙ true-has (in-last l x)))
     (λ i d b. h .bits i b ∙ has-same l (l ++ (x ∷ [])) (x .sender) (k + 1 + i) (in-append _)
     (λ j. elim (in-snoc l x j) [ inl q ↦ q | inr q ↦ let e = q .1 in absurd (d (omega arith)) ])))
@@ -214,7 +214,7 @@ side-other {k} {w} {l} {s} x d h = record {
     same n = has-same l _ s n (in-append _) old
 
 pub marked-work : {m : Memory} {l : List Message} → Marked m l → (c : ℕ) (e : Entry) → 1 ≤ e .sn → has l (e .sender) (e .sn) ≡ false
-    → e .sn ≤ m .mark (e .sender) + 64 → Marked (work-entry m e) (l ++ (message-of c e ∷ []))
+    → e .sn ≤ m .mark (e .sender) + width → Marked (work-entry m e) (l ++ (message-of c e ∷ []))
 unfolding work-entry message-of
 marked-work {m} {l} h c e pos new near = sides (work-entry m e)
     (upd-ind₂ (λ s k w. Side k w (l ++ (message-of c e ∷ [])) s) (e .sender) _ _ (m .mark) (m .window)
@@ -228,9 +228,9 @@ worked-in {m} {l} {s} {n} h pos e = elim (lt? (m .mark s) n) [
   | inl a ↦ elim (or-cases (leb n (m .mark s)) _ e) [
     | inl p ↦ h .below s n pos (leb-true _ _ p)
     | inr p ↦
-        let b : n ≤ m .mark s + 64 = leb-true _ _ (and-l (leb n (m .mark s + 64)) _ p) in
+        let b : n ≤ m .mark s + width = leb-true _ _ (and-l (leb n (m .mark s + width)) _ p) in
         let q : m .mark s + 1 + (n - m .mark s - 1) ≡ n = omega arith in
-        has-true l s n (sym (ap (has l s) q) ∙ sym (h .bits s (n - m .mark s - 1) (omega arith)) ∙ and-r (leb n (m .mark s + 64)) _ p)
+        has-true l s n (sym (ap (has l s) q) ∙ sym (h .bits s (n - m .mark s - 1) (omega arith)) ∙ and-r (leb n (m .mark s + width)) _ p)
   ]
   | inr a ↦ h .below s n pos a
 ]
@@ -245,19 +245,19 @@ in-worked {m} {l} {s} {n} h i = elim (lt? (m .mark s) n) [
   | inr a ↦ or-l _ _ (le-leb _ _ a)
 ]
 
--- ---- SN n of s is at most 64 above a number up to which all are in the list
+-- ---- SN n of s is at most the width of the window above a number up to which all are in the list
 pub record Reach (l : List Message) (s n : ℕ) : Type 0 where
   pub upto : ℕ
   pub all : (i : ℕ) → 1 ≤ i → i ≤ upto → In l s i
-  pub near : n ≤ upto + 64
+  pub near : n ≤ upto + width
 
 pub reach-mono : {l k : List Message} {s n : ℕ} → Prefix l k → Reach l s n → Reach k s n
 reach-mono p r = record { upto = r .upto; all = λ i a b. in-mono p (r .all i a b); near = r .near }
 
-pub admitted-reach : {m : Memory} {l : List Message} (s : ℕ) {n : ℕ} → Marked m l → n ≤ m .mark s + 64 → Reach l s n
+pub admitted-reach : {m : Memory} {l : List Message} (s : ℕ) {n : ℕ} → Marked m l → n ≤ m .mark s + width → Reach l s n
 admitted-reach {m} s h near = record { upto = m .mark s; all = h .below s; near = near }
 
-pub reach-admitted : {m : Memory} {l : List Message} {s n : ℕ} → Marked m l → Reach l s n → n ≤ m .mark s + 64
+pub reach-admitted : {m : Memory} {l : List Message} {s n : ℕ} → Marked m l → Reach l s n → n ≤ m .mark s + width
 reach-admitted {m} {l} {s} {n} h r = elim (lt? (m .mark s) (r .upto)) [
   | inl a ↦ absurd (has-false (h .next s) (r .all (m .mark s + 1) (omega arith) (omega arith)))
   | inr a ↦ let near = r .near in omega arith

@@ -115,26 +115,26 @@ hole-none h top l e v a b = first-free-none (top - h - 1) (h + 1) l e v (omega a
 module _ (m : Memory) where
   pub new-tn-above : m .height < new-tn m
   unfolding new-tn next-tn hole-or
-  new-tn-above = go (lowest-hole (m .height) (m .top) (m .table)) refl
+  new-tn-above = go (lowest-hole (m .height) (m .highest-at-restart) (m .table)) refl
     where
-      go : (o : Option ℕ) → lowest-hole (m .height) (m .top) (m .table) ≡ o → m .height < hole-or o (highest (m .height) (m .table) + 1)
+      go : (o : Option ℕ) → lowest-hole (m .height) (m .highest-at-restart) (m .table) ≡ o → m .height < hole-or o (highest (m .height) (m .table) + 1)
       go none e = let a = height-highest (m .height) (m .table) in omega arith
       go (some t) e = hole-some _ _ _ e .above
 
   pub new-tn-free : (e : Entry) → e ∈ m .table → e .tn ≢ new-tn m
   unfolding new-tn next-tn hole-or
-  new-tn-free = go (lowest-hole (m .height) (m .top) (m .table)) refl
+  new-tn-free = go (lowest-hole (m .height) (m .highest-at-restart) (m .table)) refl
     where
-      go : (o : Option ℕ) → lowest-hole (m .height) (m .top) (m .table) ≡ o → NotEntered (m .table) (hole-or o (highest (m .height) (m .table) + 1))
+      go : (o : Option ℕ) → lowest-hole (m .height) (m .highest-at-restart) (m .table) ≡ o → NotEntered (m .table) (hole-or o (highest (m .height) (m .table) + 1))
       go none e = λ x i q. let a = highest-above (m .height) i in omega arith
       go (some t) e = hole-some _ _ _ e .free
 
   -- ---- the target of a restart
   pub target-above : m .height ≤ target-of m
   unfolding target-of below-hole
-  target-above = go (lowest-hole (m .height) (m .top) (m .table)) refl
+  target-above = go (lowest-hole (m .height) (m .highest-at-restart) (m .table)) refl
     where
-      go : (o : Option ℕ) → lowest-hole (m .height) (m .top) (m .table) ≡ o → m .height ≤ below-hole o (highest (m .height) (m .table))
+      go : (o : Option ℕ) → lowest-hole (m .height) (m .highest-at-restart) (m .table) ≡ o → m .height ≤ below-hole o (highest (m .height) (m .table))
       go none e = height-highest _ _
       go (some t) e = let a = hole-some _ _ _ e .above in omega arith
 
@@ -142,24 +142,24 @@ module _ (m : Memory) where
   pub target-reaches : (v : ℕ) → ((t : ℕ) → m .height < t → t ≤ v → Entered (m .table) t) → v ≤ target-of m
   unfolding target-of below-hole
   target-reaches v has = elim (lt? (m .height) v) [
-    | inl a ↦ go a (lowest-hole (m .height) (m .top) (m .table)) refl
+    | inl a ↦ go a (lowest-hole (m .height) (m .highest-at-restart) (m .table)) refl
     | inr a ↦ let b = target-above in omega arith
   ]
     where
-      go : m .height < v → (o : Option ℕ) → lowest-hole (m .height) (m .top) (m .table) ≡ o → v ≤ below-hole o (highest (m .height) (m .table))
+      go : m .height < v → (o : Option ℕ) → lowest-hole (m .height) (m .highest-at-restart) (m .table) ≡ o → v ≤ below-hole o (highest (m .height) (m .table))
       go a none e = let (x, i, q) = has v a (omega arith) in let b = highest-above (m .height) i in omega arith
       go a (some t) e =
           let r = hole-some _ _ _ e in
           let f = r .above in
           elim (lt? v t) [ inl b ↦ omega arith | inr b ↦ let (x, i, q) = has t f b in absurd (r .free x i q) ]
 
-  -- every TN above the height up to the target has an entry; `top` is the highest at the restart
-  pub target-has : m .top ≡ highest (m .height) (m .table) → (t : ℕ) → m .height < t → t ≤ target-of m → Entered (m .table) t
+  -- every TN above the height up to the target has an entry; `highest-at-restart` is the highest at the restart
+  pub target-has : m .highest-at-restart ≡ highest (m .height) (m .table) → (t : ℕ) → m .height < t → t ≤ target-of m → Entered (m .table) t
   unfolding target-of below-hole
-  target-has top t a b = go (lowest-hole (m .height) (m .top) (m .table)) refl b
+  target-has top t a b = go (lowest-hole (m .height) (m .highest-at-restart) (m .table)) refl b
     where
-      go : (o : Option ℕ) → lowest-hole (m .height) (m .top) (m .table) ≡ o → t ≤ below-hole o (highest (m .height) (m .table)) → Entered (m .table) t
-      go none e b = elim (lt? t (m .top)) [
+      go : (o : Option ℕ) → lowest-hole (m .height) (m .highest-at-restart) (m .table) ≡ o → t ≤ below-hole o (highest (m .height) (m .table)) → Entered (m .table) t
+      go none e b = elim (lt? t (m .highest-at-restart)) [
         | inl c ↦ hole-none _ _ _ e t a c
         | inr c ↦ elim (highest-is (m .height) (m .table)) [
           | inl q ↦ absurd (omega arith)

@@ -7,11 +7,11 @@ use borrow.Author.Tests.{ltb-true, lt-ltb}
 use Rattle.lists.specs.Lists.{_∈_, All, keep, keep-mem, mem-keep, map-mem, mem-map}
 use Rattle.lists.specs.Keys.{NoDup, nodup-keep}
 use Rattle.protocol.specs.declared.Entry.{Entry}
-use Rattle.protocol.specs.Tickets.{note-entry}
+use Rattle.protocol.specs.Tickets.{mark-noted}
 use Rattle.protocol.specs.Checkpoint.{above-height}
 use Rattle.protocol.specs.CrashFree.{Run}
 use Rattle.protocol.specs.History.{message-of}
-use Rattle.protocol.specs.Recovery.Invariant.World.{Entered}
+use Rattle.protocol.specs.Recovery.Invariant.World.{HasEntry}
 use Rattle.protocol.specs.Recovery.Invariant.Clauses.{Table}
 use Rattle.protocol.specs.Recovery.Laws.Lookups.{entry-key}
 
@@ -24,34 +24,34 @@ nodup-map k k′ f same (x ∷ l) h =
 
 -- ---- the table
 unfoldable pub pruned-table : ℕ → List Entry → List Entry
-pruned-table h l = map note-entry (keep (above-height h) l)
+pruned-table h l = map mark-noted (keep (above-height h) l)
 
-pub all-pruned : (P : Entry → Type 0) (h : ℕ) (l : List Entry) → All (λ e. h < e .tn → P (note-entry e)) l → All P (pruned-table h l)
+pub all-pruned : (P : Entry → Type 0) (h : ℕ) (l : List Entry) → All (λ e. h < e .tn → P (mark-noted e)) l → All P (pruned-table h l)
 unfolding pruned-table above-height
 all-pruned P h l p y i =
-    let (e, m, q) = mem-map note-entry (keep (above-height h) l) i in
+    let (e, m, q) = mem-map mark-noted (keep (above-height h) l) i in
     let (a, b) = keep-mem (above-height h) l m in
     subst P q (p e a (ltb-true h (e .tn) b))
 
-pub mem-pruned : (h : ℕ) {e : Entry} {l : List Entry} → e ∈ l → h < e .tn → note-entry e ∈ pruned-table h l
+pub mem-pruned : (h : ℕ) {e : Entry} {l : List Entry} → e ∈ l → h < e .tn → mark-noted e ∈ pruned-table h l
 unfolding pruned-table above-height
-mem-pruned h {e} i k = map-mem note-entry (mem-keep (above-height h) i (lt-ltb h (e .tn) k))
+mem-pruned h {e} i k = map-mem mark-noted (mem-keep (above-height h) i (lt-ltb h (e .tn) k))
 
-pub entered-pruned : (h : ℕ) {l : List Entry} {s n t : ℕ} → Entered l s n t → h < t → Entered (pruned-table h l) s n t
-unfolding note-entry
+pub entered-pruned : (h : ℕ) {l : List Entry} {s n t : ℕ} → HasEntry l s n t → h < t → HasEntry (pruned-table h l) s n t
+unfolding mark-noted
 entered-pruned h p k =
     let e = p .of-tn in
-    record { entry = note-entry (p .entry); member = mem-pruned h (p .member) (omega arith); of-sender = p .of-sender; of-sn = p .of-sn; of-tn = p .of-tn }
+    record { entry = mark-noted (p .entry); member = mem-pruned h (p .member) (omega arith); of-sender = p .of-sender; of-sn = p .of-sn; of-tn = p .of-tn }
 
 pub table-pruned : {x : Run} {c h k : ℕ} {l : List Entry} → Table x c h l → h ≤ k → Table x c k (pruned-table k l)
-unfolding note-entry pruned-table message-of
+unfolding mark-noted pruned-table message-of
 table-pruned {x} {c} {h} {k} {l} table up = record {
   complete = λ t a b.
       let (e, i, q) = table .complete t (omega arith) b in
-      (note-entry e, mem-pruned k i (omega arith), q);
+      (mark-noted e, mem-pruned k i (omega arith), q);
   positive = all-pruned _ k l (λ e i _. table .positive e i);
-  tns = nodup-map _ _ note-entry (λ e. refl) (keep (above-height k) l) (nodup-keep _ (above-height k) l (table .tns));
-  keys = nodup-map entry-key entry-key note-entry (λ e. refl) (keep (above-height k) l) (nodup-keep entry-key (above-height k) l (table .keys));
+  tns = nodup-map _ _ mark-noted (λ e. refl) (keep (above-height k) l) (nodup-keep _ (above-height k) l (table .tns));
+  keys = nodup-map entry-key entry-key mark-noted (λ e. refl) (keep (above-height k) l) (nodup-keep entry-key (above-height k) l (table .keys));
   sent = all-pruned _ k l (λ e i _. table .sent e i);
   past = all-pruned _ k l (λ e i _. table .past e i);
   fresh = all-pruned _ k l (λ e i _. table .fresh e i);

@@ -14,7 +14,7 @@ use Rattle.protocol.specs.declared.Entry.{Entry}
 use Rattle.protocol.specs.declared.Note.{Note}
 use Rattle.protocol.specs.Parts.{State, on, every-sender}
 use Rattle.protocol.specs.Tickets.{for-message, unreceived}
-use Rattle.protocol.specs.Restart.{copied-ticket, logged-ticket, noted-ticket, is-ticketed-above, other-log, is-noted-above, known-tickets, enter, enter-all, restored-table}
+use Rattle.protocol.specs.Restart.{ticket-of-entry, ticket-of-logged, ticket-of-note, is-ticketed-above, other-log, is-note-above, known-tickets, enter, enter-all, restored-table}
 use Rattle.protocol.specs.Recovery.Laws.Changes.{Key, no-key, keep-gather, gather-ext}
 use Rattle.protocol.specs.Recovery.Laws.Lookups.{tests-entry, entry-key}
 
@@ -120,13 +120,13 @@ unfolding other-log
 mem-other-log s p q e i = rw e i
 
 module _ (s : State) (p c : ℕ) where
-  from-copy : {e f : Entry} → f ∈ s .copy c .table → copied-ticket f ≡ e → FromSource s p c e
-  unfolding copied-ticket unreceived
+  from-copy : {e f : Entry} → f ∈ s .copy c .table → ticket-of-entry f ≡ e → FromSource s p c e
+  unfolding ticket-of-entry unreceived
   from-copy {f = f} i q = subst (FromSource s p c) q
       (record { plain = refl; source = by-copy (record { ticket = f; member = i; of-sender = refl; of-sn = refl; of-tn = refl }) })
 
-  from-log : {e : Entry} {x : Logged} → x ∈ keep (is-ticketed-above c (s .copy c .height)) (gather (other-log s p) every-sender) → logged-ticket x ≡ e → FromSource s p c e
-  unfolding is-ticketed-above logged-ticket unreceived
+  from-log : {e : Entry} {x : Logged} → x ∈ keep (is-ticketed-above c (s .copy c .height)) (gather (other-log s p) every-sender) → ticket-of-logged x ≡ e → FromSource s p c e
+  unfolding is-ticketed-above ticket-of-logged unreceived
   from-log {x = x} i q =
       let (j, b) = keep-mem _ _ i in
       let (k, m, l) = gather-mem (other-log s p) every-sender j in
@@ -148,8 +148,8 @@ module _ (s : State) (p c : ℕ) where
         });
       })
 
-  from-note : {e : Entry} {k : Note} → k ∈ keep (is-noted-above c (s .copy c .height)) (s .notes p) → noted-ticket k ≡ e → FromSource s p c e
-  unfolding is-noted-above noted-ticket unreceived
+  from-note : {e : Entry} {k : Note} → k ∈ keep (is-note-above c (s .copy c .height)) (s .notes p) → ticket-of-note k ≡ e → FromSource s p c e
+  unfolding is-note-above ticket-of-note unreceived
   from-note {k = k} i q =
       let (j, b) = keep-mem _ _ i in
       subst (FromSource s p c) q
@@ -168,29 +168,29 @@ module _ (s : State) (p c : ℕ) where
 
   pub known-source : {e : Entry} → e ∈ known-tickets s p c → FromSource s p c e
   unfolding known-tickets
-  known-source i = elim (List·Memᴰ·append-cases (map copied-ticket (s .copy c .table)) i) [
-    | inl j ↦ let (f, k, q) = mem-map copied-ticket _ j in from-copy k q
-    | inr j ↦ elim (List·Memᴰ·append-cases (map logged-ticket (keep (is-ticketed-above c (s .copy c .height)) (gather (other-log s p) every-sender))) j) [
-      | inl k ↦ let (x, l, q) = mem-map logged-ticket _ k in from-log l q
-      | inr k ↦ let (x, l, q) = mem-map noted-ticket _ k in from-note l q
+  known-source i = elim (List·Memᴰ·append-cases (map ticket-of-entry (s .copy c .table)) i) [
+    | inl j ↦ let (f, k, q) = mem-map ticket-of-entry _ j in from-copy k q
+    | inr j ↦ elim (List·Memᴰ·append-cases (map ticket-of-logged (keep (is-ticketed-above c (s .copy c .height)) (gather (other-log s p) every-sender))) j) [
+      | inl k ↦ let (x, l, q) = mem-map ticket-of-logged _ k in from-log l q
+      | inr k ↦ let (x, l, q) = mem-map ticket-of-note _ k in from-note l q
     ]
   ]
 
   pub source-known : {a n t : ℕ} → Source s p c a n t → unreceived a n t ∈ known-tickets s p c
-  unfolding known-tickets copied-ticket logged-ticket noted-ticket is-ticketed-above is-noted-above
+  unfolding known-tickets ticket-of-entry ticket-of-logged ticket-of-note is-ticketed-above is-note-above
   source-known (by-copy r) = Memᴰ·append-left _
-      (Memᴰ·cast (unreceived-eq (sym (r .of-sender)) (sym (r .of-sn)) (sym (r .of-tn))) (map-mem copied-ticket (r .member)))
-  source-known (by-log r) = Memᴰ·append-right (map copied-ticket (s .copy c .table)) (Memᴰ·append-left _
+      (Memᴰ·cast (unreceived-eq (sym (r .of-sender)) (sym (r .of-sn)) (sym (r .of-tn))) (map-mem ticket-of-entry (r .member)))
+  source-known (by-log r) = Memᴰ·append-right (map ticket-of-entry (s .copy c .table)) (Memᴰ·append-left _
       (Memᴰ·cast (unreceived-eq (sym (r .of-sender)) (sym (r .of-sn)) (sym (r .of-tn)))
-      (map-mem logged-ticket
+      (map-mem ticket-of-logged
       (mem-keep (is-ticketed-above c (s .copy c .height))
       (mem-gather (other-log s p) (r .known) (mem-other-log s p (r .place) (r .elsewhere) (r .member)))
       (and-i _ _ (eq-eqb _ _ (r .of-receiver)) (lt-ltb _ _ (subst (s .copy c .height <_) (sym (r .of-tn)) (r .above))))))))
-  source-known (by-note r) = Memᴰ·append-right (map copied-ticket (s .copy c .table))
-      (Memᴰ·append-right (map logged-ticket (keep (is-ticketed-above c (s .copy c .height)) (gather (other-log s p) every-sender)))
+  source-known (by-note r) = Memᴰ·append-right (map ticket-of-entry (s .copy c .table))
+      (Memᴰ·append-right (map ticket-of-logged (keep (is-ticketed-above c (s .copy c .height)) (gather (other-log s p) every-sender)))
       (Memᴰ·cast (unreceived-eq (sym (r .of-sender)) (sym (r .of-sn)) (sym (r .of-tn)))
-      (map-mem noted-ticket
-      (mem-keep (is-noted-above c (s .copy c .height)) (r .member)
+      (map-mem ticket-of-note
+      (mem-keep (is-note-above c (s .copy c .height)) (r .member)
       (and-i _ _ (eq-eqb _ _ (r .of-receiver)) (lt-ltb _ _ (subst (s .copy c .height <_) (sym (r .of-tn)) (r .above))))))))
 
   -- ---- the restored table

@@ -14,11 +14,11 @@ use Rattle.protocol.specs.declared.Note.{Note}
 use Rattle.protocol.specs.declared.Status.the-variants.{Down}
 use Rattle.protocol.specs.Parts.{Job, Memory, at-home}
 use Rattle.protocol.specs.Setters.{with-table}
-use Rattle.protocol.specs.Tickets.{note-entry}
+use Rattle.protocol.specs.Tickets.{mark-noted}
 use Rattle.protocol.specs.Checkpoint.{pruned}
 use Rattle.protocol.specs.CrashFree.{Run}
 use Rattle.protocol.specs.Recovery.Laws.Marks.{In, marked-same}
-use Rattle.protocol.specs.Recovery.Invariant.World.{World, put-mem, put-copies, nothing-pending, Entered, Tick, Stable, NotedAs, Kept}
+use Rattle.protocol.specs.Recovery.Invariant.World.{World, put-mem, put-copies, nothing-pending, HasEntry, Tick, Stable, NotedAs, Kept}
 use Rattle.protocol.specs.Recovery.Invariant.Clauses.{Chare, Image, Images, Heights, Tables, Ordered, Remembered, Noted, Log, Logs, Copy, Copies, Notes, InvP}
 use Rattle.protocol.specs.Recovery.Invariant.Ticks.{tick-place, tick-entered}
 use Rattle.protocol.specs.Recovery.Invariant.Later.{Later, wire-later, log-later, notes-later, still-backed}
@@ -37,7 +37,7 @@ copy-same {j} {x} {stable} {mem} {c} copy copy′ same k =
       log = subst (λ m. Log j x stable mem c (m .log) (m .sn)) e (k .log);
       ordered = λ s n l i. subst (λ m. n ≤ m .sn c) (same s (local-home j s c l)) (k .ordered s n l (subst (λ m. In (take (m .height) (x .worked c)) s n) (sym e) i));
       kept = λ y i. k .kept y (subst (λ m. y ∈ m .log) (sym e) i);
-      local = λ y i l. subst (λ m. m .height < y .tn → Entered (m .table) c (y .message .sn) (y .tn)) (same _ (sym (local-home j c _ l))) (k .local y (subst (λ m. y ∈ m .log) (sym e) i) l);
+      local = λ y i l. subst (λ m. m .height < y .tn → HasEntry (m .table) c (y .message .sn) (y .tn)) (same _ (sym (local-home j c _ l))) (k .local y (subst (λ m. y ∈ m .log) (sym e) i) l);
       table = λ y i.
           let (a, t) = k .table y (subst (λ m. y ∈ m .table) (sym e) i) in
           (subst (λ m. m .height < y .tn) e a, t);
@@ -100,7 +100,7 @@ module _ {w : World} (inv : InvP nothing-pending w) (q : ℕ) (not-desk : q ≢ 
   held-off c d e = sym (upd-other q true (w .held) (home c) d) ∙ e
 
   -- ---- what stays, and what is new
-  all-table : (c : ℕ) (P : Entry → Type 0) → All P (w .mem c .table) → All (λ e. P (note-entry e)) (w .mem c .table) → All P (table′ c)
+  all-table : (c : ℕ) (P : Entry → Type 0) → All P (w .mem c .table) → All (λ e. P (mark-noted e)) (w .mem c .table) → All P (table′ c)
   all-table c P old new = elim (eq? (home c) q) [
     | inl e ↦ subst (All P) (sym (table-on c e)) (all-pruned P (w .mem c .height) (w .mem c .table) (λ f i _. new f i))
     | inr d ↦ subst (All P) (sym (table-off c d)) old
@@ -122,17 +122,17 @@ module _ {w : World} (inv : InvP nothing-pending w) (q : ℕ) (not-desk : q ≢ 
   tick-later r s n t (inl p) = inl p
   tick-later r s n t (inr p) = elim (eq? (home r) q) [
     | inl e ↦ elim (lt? (w .mem r .height) t) [
-      | inl a ↦ inr (subst (λ l. Entered l s n t) (sym (table-on r e)) (entered-pruned (w .mem r .height) p a))
+      | inl a ↦ inr (subst (λ l. HasEntry l s n t) (sym (table-on r e)) (entered-pruned (w .mem r .height) p a))
       | inr a ↦
           let reached = image-now (inv .images) r (here-chare r e) .reached in
           inl (tick-place (inv .tables r (here-chare r e)) (omega arith) (inr p))
     ]
-    | inr d ↦ inr (subst (λ l. Entered l s n t) (sym (table-off r d)) p)
+    | inr d ↦ inr (subst (λ l. HasEntry l s n t) (sym (table-off r d)) p)
   ]
 
   kept-off : (r s n t : ℕ) → home r ≢ q → Kept (w .job) (w .copy) (w .notes) r s n t → Kept (w .job) copy′ notes′ r s n t
   kept-off r s n t d (inl p) = inl (subst (λ l. NotedAs l s r n t) (sym (upd-other q [] (w .notes) (home r) d)) p)
-  kept-off r s n t d (inr p) = inr (subst (λ m. Entered (m .table) s n t) (sym (copy-off r d)) p)
+  kept-off r s n t d (inr p) = inr (subst (λ m. HasEntry (m .table) s n t) (sym (copy-off r d)) p)
 
   -- every entry left on the machine is in the copy
   kept-on : {s n : ℕ} (r : ℕ) → home r ≡ q → (e : Entry) → e ∈ table′ r → e .sender ≡ s → e .sn ≡ n → Kept (w .job) copy′ notes′ r s n (e .tn)
@@ -186,18 +186,18 @@ module _ {w : World} (inv : InvP nothing-pending w) (q : ℕ) (not-desk : q ≢ 
   ]
 
   ordered : Ordered (w .job) (w .run) mem′
-  unfolding note-entry
+  unfolding mark-noted
   ordered = record {
     received = λ c chare. all-table c _ (inv .ordered .received c chare) (inv .ordered .received c chare);
     worked = inv .ordered .worked;
   }
 
   remembered : Remembered (w .job) (w .run) stable′ (w .status) mem′
-  unfolding note-entry
+  unfolding mark-noted
   remembered c chare = all-table c _ (λ e i o. inv .remembered c chare e i (was-above c o)) (λ e i o. inv .remembered c chare e i (was-above c o))
 
   noted : Noted (w .job) (w .run) stable′ mem′ held′ copy′ notes′
-  unfolding note-entry
+  unfolding mark-noted
   noted = record {
     unnoted = λ c chare. all-table c _ (inv .noted .unnoted c chare) (λ e i u. true-not-false refl u);
     noted = λ c chare u e i o l k. elim (eq? (home c) q) [
@@ -217,7 +217,7 @@ module _ {w : World} (inv : InvP nothing-pending w) (q : ℕ) (not-desk : q ≢ 
 
   -- a chare of the machine: its copy is its memory
   copy-here : (c : ℕ) → home c ≡ q → Copy (w .job) (w .run) stable′ mem′ mem′ c
-  unfolding note-entry
+  unfolding mark-noted
   copy-here c h =
       let chare = here-chare c h in
       record {
@@ -231,7 +231,7 @@ module _ {w : World} (inv : InvP nothing-pending w) (q : ℕ) (not-desk : q ≢ 
             let a = inv .heights .above-stable r (here-chare r h′) in
             let t = inv .logs c (inr chare) .tick y i (λ e. omega arith) in
             let p = tick-entered (inv .tables r (here-chare r h′)) (omega arith) t in
-            subst (λ l. Entered l c (y .message .sn) (y .tn)) (sym (table-on r h′)) (entered-pruned (w .mem r .height) p k);
+            subst (λ l. HasEntry l c (y .message .sn) (y .tn)) (sym (table-on r h′)) (entered-pruned (w .mem r .height) p k);
         table = λ e i.
             let a = all-pruned (λ e. w .mem c .height < e .tn) (w .mem c .height) (w .mem c .table) (λ f _ k. k) e (subst (e ∈_) (table-on c h) i) in
             (a, inr (record { entry = e; member = i; of-sender = refl; of-sn = refl; of-tn = refl }));

@@ -18,7 +18,7 @@ use Rattle.protocol.specs.Setters.{with-table}
 use Rattle.protocol.specs.Crash.{kept-by}
 use Rattle.protocol.specs.Restart.{restored-table}
 use Rattle.protocol.specs.CrashFree.{Run}
-use Rattle.protocol.specs.Recovery.Invariant.World.{Place, Entered, Tick, Kept}
+use Rattle.protocol.specs.Recovery.Invariant.World.{Place, HasEntry, Tick, Kept}
 use Rattle.protocol.specs.Recovery.Invariant.Clauses.{Chare, Log, Logs, Notes}
 use Rattle.protocol.specs.Recovery.Laws.AtHome.{at-home-on, at-home-off}
 use Rattle.protocol.specs.Recovery.Invariant.Ticks.{tick-place, stable-reached}
@@ -95,13 +95,13 @@ module _ {s : State} {x : Run} {stable : ℕ → ℕ} {q : ℕ} (b : Covered s x
 
   -- ---- tickets
   pub tick-elsewhere : {r a n t : ℕ} → s .job .home r ≢ q → Tick x (s .live) r a n t → Tick x (memory-after s q) r a n t
-  tick-elsewhere {r} {a} {n} {t} d y = subst (λ m. Place (x .worked r) t a n ⊎ Entered (m .table) a n t) (sym (memory-elsewhere s q r d)) y
+  tick-elsewhere {r} {a} {n} {t} d y = subst (λ m. Place (x .worked r) t a n ⊎ HasEntry (m .table) a n t) (sym (memory-elsewhere s q r d)) y
 
   -- at a chare of q those at or below the stable height were worked, and those above it are found again, if they have a source
   pub tick-after : {r a n t : ℕ} → (s .job .home r ≡ q → stable r < t → Source s q r a n t) → Tick x (s .live) r a n t → Tick x (memory-after s q) r a n t
   tick-after {r} {a} {n} {t} source y = elim (eq? (s .job .home r) q) [
     | inl h ↦ elim (lt? (stable r) t) [
-      | inl k ↦ inr (subst (λ m. Entered (m .table) a n t) (sym (memory-here s q r h)) (source-entered b h (source h k)))
+      | inl k ↦ inr (subst (λ m. HasEntry (m .table) a n t) (sym (memory-here s q r h)) (source-entered b h (source h k)))
       | inr k ↦
           let chare = here-chare b r h in
           let u = stable-reached (b .inv) r chare in

@@ -19,7 +19,7 @@ use Rattle.protocol.specs.Restart.{restored-table}
 use Rattle.protocol.specs.CrashFree.{Run}
 use Rattle.protocol.specs.Recovery.Run.Facts.{RunOk}
 use Rattle.protocol.specs.Recovery.Laws.Marks.{In, Reach}
-use Rattle.protocol.specs.Recovery.Invariant.World.{nothing-pending, Place, Entered, Tick, SentKey, LoggedAs, Kept}
+use Rattle.protocol.specs.Recovery.Invariant.World.{nothing-pending, Place, HasEntry, Tick, SentKey, LoggedAs, Kept}
 use Rattle.protocol.specs.Recovery.Invariant.Clauses.{Chare, Table, InvP}
 use Rattle.protocol.specs.Recovery.Invariant.Linked.{world}
 use Rattle.protocol.specs.Recovery.Invariant.Ticks.{tick-entered, entered-entry}
@@ -84,11 +84,11 @@ module _ {s : State} {x : Run} {stable : ℕ → ℕ} {q : ℕ} (b : Covered s x
         omega arith,
       )
 
-  source-old : {c a n t : ℕ} → s .job .home c ≡ q → Source s q c a n t → Entered (s .live c .table) a n t
+  source-old : {c a n t : ℕ} → s .job .home c ≡ q → Source s q c a n t → HasEntry (s .live c .table) a n t
   source-old {c} h r = let (y, k) = source-tick h r in tick-entered (b .inv .tables c (here-chare c h)) k y
 
   -- ---- and the restored table has it
-  pub source-entered : {c a n t : ℕ} → s .job .home c ≡ q → Source s q c a n t → Entered (restored-table s q c) a n t
+  pub source-entered : {c a n t : ℕ} → s .job .home c ≡ q → Source s q c a n t → HasEntry (restored-table s q c) a n t
   unfolding unreceived
   source-entered {c} {a} {n} {t} h r =
       let table = b .inv .tables c (here-chare c h) in
@@ -166,7 +166,7 @@ module _ {s : State} {x : Run} {stable : ℕ → ℕ} {q : ℕ} (b : Covered s x
 
   -- ---- the restored table of chare c
   module _ (c : ℕ) (h : s .job .home c ≡ q) where
-    pub restored-old : {e : Entry} → e ∈ restored-table s q c → Entered (s .live c .table) (e .sender) (e .sn) (e .tn)
+    pub restored-old : {e : Entry} → e ∈ restored-table s q c → HasEntry (s .live c .table) (e .sender) (e .sn) (e .tn)
     restored-old i = source-old h (restored-table-mem s q c i .source)
 
     -- what holds of every entry that was, by its name and TN

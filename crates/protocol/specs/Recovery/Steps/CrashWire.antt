@@ -15,7 +15,7 @@ use Rattle.protocol.specs.Parts.{Job, State, on}
 use Rattle.protocol.specs.Packets.{kind, destination, goes-to}
 use Rattle.protocol.specs.Crash.{survives}
 use Rattle.protocol.specs.CrashFree.{Run}
-use Rattle.protocol.specs.Recovery.Invariant.World.{World, Ticketed}
+use Rattle.protocol.specs.Recovery.Invariant.World.{World, HasTicket}
 use Rattle.protocol.specs.Recovery.Invariant.Clauses.{Fits, PacketOk}
 use Rattle.protocol.specs.Recovery.Invariant.Linked.{world}
 use Rattle.protocol.specs.Recovery.Invariant.Homes.{elsewhere, local-home}
@@ -70,7 +70,7 @@ module _ {s : State} {x : Run} {stable : ℕ → ℕ} {q : ℕ} (b : Covered s x
     f .0,
     f .1,
     λ u. elim (f .2 (b .normal _)) [
-      | inl k ↦ inl (subst (λ m. Ticketed (m .log) r n) (sym (memory-elsewhere s q a (up-elsewhere b _ u))) k)
+      | inl k ↦ inl (subst (λ m. HasTicket (m .log) r n) (sym (memory-elsewhere s q a (up-elsewhere b _ u))) k)
       | inr k ↦ inr k
     ],
   )

@@ -27,7 +27,7 @@ gone-on mem new c = record {
   sn = mem c .sn;
   mark = new c .mark;
   window = new c .window;
-  top = new c .top;
+  highest-at-restart = new c .highest-at-restart;
   table = mem c .table;
   log = mem c .log;
 }
@@ -103,7 +103,7 @@ module _ {p q : Pending} {w : World} {y : Run} {new : ℕ → Memory} (inv : Inv
     sn = sym (h .same-counts c) i;
     mark = new c .mark;
     window = new c .window;
-    top = new c .top;
+    highest-at-restart = new c .highest-at-restart;
     table = sym (h .same-table c) i;
     log = sym (h .same-log c) i;
   }

@@ -13,7 +13,7 @@ use Rattle.protocol.specs.declared.Logged.{Logged}
 use Rattle.protocol.specs.declared.Entry.{Entry}
 use Rattle.protocol.specs.declared.Status.the-variants.{Down}
 use Rattle.protocol.specs.Parts.{Job, Memory, State, on, at-home}
-use Rattle.protocol.specs.Setters.{with-table, with-top}
+use Rattle.protocol.specs.Setters.{with-table, with-highest-at-restart}
 use Rattle.protocol.specs.Tickets.{for-message, fill, filled}
 use Rattle.protocol.specs.Restart.{restored-table, fill-all, filled-table, restored}
 use Rattle.protocol.specs.CrashFree.{Run}
@@ -132,13 +132,13 @@ module _ {p : Pending} {s : State} {x : Run} {stable : ℕ → ℕ} {mem : ℕ �
       (λ c d. inl (ap (λ m. m .table) (sym (there-mem c d))))
 
   -- they differ from those of the world in tables and tops alone
-  back-rest : (c : ℕ) → with-top (with-table (mem c) (back c .table)) (back c .top) ≡ back c
+  back-rest : (c : ℕ) → with-highest-at-restart (with-table (mem c) (back c .table)) (back c .highest-at-restart) ≡ back c
   unfolding restored
-  back-rest = at-home-ind (λ c m. with-top (with-table (mem c) (m .table)) (m .top) ≡ m) (s .job) q (λ c m. restored s q c) (s .live)
-      (λ c h. ap (λ m. with-top (with-table m (restored s q c .table)) (restored s q c .top)) (here-mem c h))
-      (λ c d. ap (λ m. with-top (with-table m (s .live c .table)) (s .live c .top)) (there-mem c d))
+  back-rest = at-home-ind (λ c m. with-highest-at-restart (with-table (mem c) (m .table)) (m .highest-at-restart) ≡ m) (s .job) q (λ c m. restored s q c) (s .live)
+      (λ c h. ap (λ m. with-highest-at-restart (with-table m (restored s q c .table)) (restored s q c .highest-at-restart)) (here-mem c h))
+      (λ c d. ap (λ m. with-highest-at-restart (with-table m (s .live c .table)) (s .live c .highest-at-restart)) (there-mem c d))
 
   pub restored-inv : InvP p (put-mem (world s x stable mem) (at-home (s .job) q (λ c m. restored s q c) (s .live)))
   restored-inv =
       subst (λ m. InvP p (put-mem (world s x stable mem) m)) (fun-ext back-rest)
-      (tables-rewrite inv (λ c. back c .table) (λ c. back c .top) back-tables)
+      (tables-rewrite inv (λ c. back c .table) (λ c. back c .highest-at-restart) back-tables)

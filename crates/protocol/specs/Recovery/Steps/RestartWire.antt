@@ -21,7 +21,7 @@ use Rattle.protocol.specs.Sending.{is-local, about}
 use Rattle.protocol.specs.Restart.{target-of, resends}
 use Rattle.protocol.specs.CrashFree.{Run}
 use Rattle.protocol.specs.Recovery.Laws.NewTicket.{target-reaches}
-use Rattle.protocol.specs.Recovery.Invariant.World.{World, Pending, put-status, SentKey, Ticketed}
+use Rattle.protocol.specs.Recovery.Invariant.World.{World, Pending, put-status, SentKey, HasTicket}
 use Rattle.protocol.specs.Recovery.Invariant.Clauses.{Chare, Log, PacketOk, InvP}
 use Rattle.protocol.specs.Recovery.Invariant.Linked.{world}
 use Rattle.protocol.specs.Recovery.Invariant.Silent.{Silent}
@@ -139,7 +139,7 @@ module _ {p : Pending} (s : State) {x : Run} {stable : ℕ → ℕ} (inv : InvP 
       fits = (
         remote d,
         log .sent y i,
-        λ _. inl (subst (λ b. Ticketed (s .live b .log) (y .message .receiver) (y .message .sn)) (sym (log .owner y i)) (record {
+        λ _. inl (subst (λ b. HasTicket (s .live b .log) (y .message .receiver) (y .message .sn)) (sym (log .owner y i)) (record {
           tn = y .tn;
           some-tn = t;
           found = record { logged = y; member = i; of-receiver = refl; of-sn = refl; of-tn = refl };

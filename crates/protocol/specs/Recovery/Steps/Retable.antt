@@ -14,7 +14,7 @@ use Rattle.protocol.specs.Setters.{with-table}
 use Rattle.protocol.specs.Sending.{is-local}
 use Rattle.protocol.specs.CrashFree.{Run}
 use Rattle.protocol.specs.Recovery.Laws.Marks.{In, marked-same}
-use Rattle.protocol.specs.Recovery.Invariant.World.{World, Pending, put-mem, counted, Owed, Entered, SentKey, LoggedAs, Ticketed}
+use Rattle.protocol.specs.Recovery.Invariant.World.{World, Pending, put-mem, counted, Owed, HasEntry, SentKey, LoggedAs, HasTicket}
 use Rattle.protocol.specs.Recovery.Invariant.Clauses.{Chare, Sender, Image, Images, Heights, Table, Ordered, Remembers, Keeps, Noted, Log, Logs, Copies, Acks, InvP}
 use Rattle.protocol.specs.Recovery.Invariant.Ticks.{tick-mem}
 use Rattle.protocol.specs.Recovery.Invariant.Later.{Later, Acked, wire-later, log-later, notes-later}
@@ -29,7 +29,7 @@ pub record Retabled (w : World) (r : ℕ) (l : List Entry) : Type 0 where
   pub remembered : Remembers (w .job) (w .run) (w .stable) (w .status) (w .mem) r l
   pub unnoted : All (λ e. e .noted ≡ false → (is-local (w .job) (e .sender) r ≡ true) × (length (w .run .worked r) < e .tn)) l
   pub noted : w .held (w .job .home r) ≡ true → Keeps (w .job) (w .stable) (w .copy) (w .notes) r l
-  pub entered : (s n t : ℕ) → Entered (w .mem r .table) s n t → Entered l s n t
+  pub entered : (s n t : ℕ) → HasEntry (w .mem r .table) s n t → HasEntry l s n t
   pub acked : (s n : ℕ) → SentKey (w .run) s r n → is-local (w .job) s r ≡ true → n ≤ w .mem s .sn r → Acked w s r n
       → w .held (w .job .home r) ≡ true → Acks w s r n l
 
@@ -62,10 +62,10 @@ module _ (w : World) (r : ℕ) (l : List Entry) (h : Retabled w r l) where
     sent = λ m i. i;
     stable = λ c s n i. i;
     tick = λ c s n t. tick-mem (w .run) (w .mem) (put-table w r l .mem) c
-        (at w r l (λ c m. (s n t : ℕ) → Entered (w .mem c .table) s n t → Entered (m .table) s n t) (h .entered) (λ c s n t e. e) c);
+        (at w r l (λ c m. (s n t : ℕ) → HasEntry (w .mem c .table) s n t → HasEntry (m .table) s n t) (h .entered) (λ c s n t e. e) c);
     up = λ p i. i;
     counts = λ s c. le-of-eq (ap (λ f. f c) (same-counts w r l s));
-    backed = λ s c n k e b u. elim (b u) [ inl i ↦ inl (subst (λ l. Ticketed l c n) (same-log w r l s) i) | inr i ↦ inr i ];
+    backed = λ s c n k e b u. elim (b u) [ inl i ↦ inl (subst (λ l. HasTicket l c n) (same-log w r l s) i) | inr i ↦ inr i ];
     acked = λ s c n. at w r l
         (λ c m. SentKey (w .run) s c n → is-local (w .job) s c ≡ true → n ≤ w .mem s .sn c → Acked w s c n
         → w .held (w .job .home c) ≡ true → Acks w s c n (m .table))

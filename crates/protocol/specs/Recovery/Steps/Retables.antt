@@ -1,4 +1,4 @@
--- The tables of many chares are rewritten at once. `top`, which no clause reads, may change with them.
+-- The tables of many chares are rewritten at once. `highest-at-restart`, which no clause reads, may change with them.
 use mathlib.Core.Path.{_≡_, refl, sym, subst}
 use mathlib.Core.Logic.{_⊎_, inl, inr}
 use mathlib.Core.List.{List}
@@ -7,9 +7,9 @@ use native.Mathlib.Nat.{le-refl}
 use Rattle.lists.specs.Map.{upd-same, upd-ind}
 use Rattle.lists.specs.Lists.{_∈_}
 use Rattle.protocol.specs.declared.Entry.{Entry}
-use Rattle.protocol.specs.Setters.{with-table, with-top}
+use Rattle.protocol.specs.Setters.{with-table, with-highest-at-restart}
 use Rattle.protocol.specs.Recovery.Laws.Marks.{marked-same}
-use Rattle.protocol.specs.Recovery.Invariant.World.{World, Pending, put-mem, Entered, LoggedAs}
+use Rattle.protocol.specs.Recovery.Invariant.World.{World, Pending, put-mem, HasEntry, LoggedAs}
 use Rattle.protocol.specs.Recovery.Invariant.Clauses.{Chare, Images, Table, Ordered, Remembered, Noted, Copies, InvP}
 use Rattle.protocol.specs.Recovery.Invariant.Ticks.{tick-mem}
 use Rattle.protocol.specs.Recovery.Invariant.Later.{Later, wire-later, log-later, notes-later, still-acked}
@@ -18,7 +18,7 @@ use Rattle.protocol.specs.Recovery.Steps.Table.{Becomes, Rewritten, beco
 
 -- chare c gets the table l c and the top of its restart
 abbrev pub put-tables : World → (ℕ → List Entry) → (ℕ → ℕ) → World
-put-tables w l top = put-mem w (λ c. with-top (with-table (w .mem c) (l c)) (top c))
+put-tables w l top = put-mem w (λ c. with-highest-at-restart (with-table (w .mem c) (l c)) (top c))
 
 module _ {p : Pending} {w : World} (inv : InvP p w) (l : ℕ → List Entry) (top : ℕ → ℕ)
     (each : (c : ℕ) → (l c ≡ w .mem c .table) ⊎ (Chare (w .job) c × Rewritten w c (l c))) where
@@ -37,8 +37,8 @@ module _ {p : Pending} {w : World} (inv : InvP p w) (l : ℕ → List Entry) (to
   before : (c : ℕ) (e : Entry) → e ∈ l c → (f : Entry) × (f ∈ w .mem c .table) × Becomes w c f e
   before c e i = elim (each c) [ inl q ↦ (e, subst (e ∈_) q i, becomes-self w c e) | inr h ↦ h .1 .old e i ]
 
-  entered : (c s n t : ℕ) → Entered (w .mem c .table) s n t → Entered (l c) s n t
-  entered c s n t i = elim (each c) [ inl q ↦ subst (λ k. Entered k s n t) (sym q) i | inr h ↦ entered-new (h .1) i ]
+  entered : (c s n t : ℕ) → HasEntry (w .mem c .table) s n t → HasEntry (l c) s n t
+  entered c s n t i = elim (each c) [ inl q ↦ subst (λ k. HasEntry k s n t) (sym q) i | inr h ↦ entered-new (h .1) i ]
 
   later : Later w (put-tables w l top)
   later = record {

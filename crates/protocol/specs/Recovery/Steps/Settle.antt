@@ -15,7 +15,7 @@ use Rattle.protocol.specs.declared.Status.the-variants.{Up, Down, Catchi
 use Rattle.protocol.specs.Parts.{Job, Memory}
 use Rattle.protocol.specs.CrashFree.{Run}
 use Rattle.protocol.specs.Recovery.Run.Facts.{RunOk}
-use Rattle.protocol.specs.Recovery.Invariant.World.{World, put-status, nothing-pending, Tick, Stable, SentKey, LoggedAs, Ticketed}
+use Rattle.protocol.specs.Recovery.Invariant.World.{World, put-status, nothing-pending, Tick, Stable, SentKey, LoggedAs, HasTicket}
 use Rattle.protocol.specs.Recovery.Invariant.Clauses.{Chare, Log, InvP}
 use Rattle.protocol.specs.Recovery.Invariant.Ticks.{tick-entry, stable-no-entry}
 use Rattle.protocol.specs.Recovery.Invariant.Later.{Backed, Later, wire-later}
@@ -45,7 +45,7 @@ module _ {w : World} (ok : RunOk (w .job) (w .run)) (inv : InvP nothing-pending 
       omega arith
 
   -- what the run has sent from a chare of the machine is ticketed in its log, or stable
-  ticketed : {r n : ℕ} (s : ℕ) → w .job .home s ≡ q → SentKey (w .run) s r n → Ticketed (w .mem s .log) r n ⊎ Stable (w .run) (w .stable) r s n
+  ticketed : {r n : ℕ} (s : ℕ) → w .job .home s ≡ q → SentKey (w .run) s r n → HasTicket (w .mem s .log) r n ⊎ Stable (w .run) (w .stable) r s n
   ticketed {r} {n} s e k =
       let chare = settles s e in
       let log = inv .logs s (inr chare) in

@@ -10,16 +10,17 @@ use lib.ListN.{length, take}
 use Rattle.lists.specs.Tests.{lt?, true-not-false}
 use Rattle.lists.specs.Lists.{_∈_, All, all-snoc, change1}
 use Rattle.lists.specs.Keys.{NoDup, nodup-snoc, nodup-change1, uniq}
+use Rattle.protocol.specs.Window.{width}
 use Rattle.protocol.specs.declared.Entry.{Entry}
 use Rattle.protocol.specs.declared.Status.the-variants.{Up}
-use Rattle.protocol.specs.Tickets.{for-message, entry, fill, filled, note-entry}
+use Rattle.protocol.specs.Tickets.{for-message, entry, fill, filled, mark-noted}
 use Rattle.protocol.specs.Sending.{is-local}
 use Rattle.protocol.specs.History.{message-of}
 use Rattle.protocol.specs.Recovery.Run.Facts.{Sent}
 use Rattle.protocol.specs.Recovery.Laws.Changes.{Key, kept, changed, change-mem, mem-change1-either}
 use Rattle.protocol.specs.Recovery.Laws.Marks.{In, Reach, reach-mono, admitted-reach}
 use Rattle.protocol.specs.Recovery.Laws.Lookups.{tests-entry, entry-some, entry-key}
-use Rattle.protocol.specs.Recovery.Invariant.World.{World, Pending, Place, Entered, SentKey, LoggedAs, Kept}
+use Rattle.protocol.specs.Recovery.Invariant.World.{World, Pending, Place, HasEntry, SentKey, LoggedAs, Kept}
 use Rattle.protocol.specs.Recovery.Invariant.Clauses.{Chare, Table, InvP}
 use Rattle.protocol.specs.Recovery.Laws.Places.{take-mono, place-bound, place-take, in-place, place-same}
 use Rattle.protocol.specs.Recovery.Invariant.Later.{Acked}
@@ -34,7 +35,7 @@ pub record NewEntry (w : World) (r : ℕ) (e : Entry) : Type 0 where
   pub free : All (λ f. f .tn ≢ e .tn) (w .mem r .table)
   pub unknown : All (λ f. entry-key f ≢ entry-key e) (w .mem r .table)
   pub unworked : In (take (w .mem r .height) (w .run .worked r)) (e .sender) (e .sn) → ⊥
-  pub near : e .sn ≤ w .mem r .mark (e .sender) + 64
+  pub near : e .sn ≤ w .mem r .mark (e .sender) + width
   pub local : e .noted ≡ false → is-local (w .job) (e .sender) r ≡ true
   pub unnoted : is-local (w .job) (e .sender) r ≡ true → e .noted ≡ false
   pub next : is-local (w .job) (e .sender) r ≡ true → w .mem (e .sender) .sn r < e .sn
@@ -126,7 +127,7 @@ pub record Becomes (w : World) (r : ℕ) (f e : Entry) : Type 0 where
 -- the entries of the new table are those of the old one, as they may become
 pub record Rewritten (w : World) (r : ℕ) (l : List Entry) : Type 0 where
   pub old : (e : Entry) → e ∈ l → (f : Entry) × (f ∈ w .mem r .table) × Becomes w r f e
-  pub new : All (λ f. Entered l (f .sender) (f .sn) (f .tn)) (w .mem r .table)
+  pub new : All (λ f. HasEntry l (f .sender) (f .sn) (f .tn)) (w .mem r .table)
   pub tns : NoDup (λ (e : Entry). e .tn) l
   pub keys : NoDup entry-key l
 
@@ -139,10 +140,10 @@ same-message r f e a b c d i = record { sender = a i; receiver = r; sn = b i; va
 
 -- tickets are the same in both tables
 module _ {w : World} {r : ℕ} {l : List Entry} (h : Rewritten w r l) {s n t : ℕ} where
-  pub entered-new : Entered (w .mem r .table) s n t → Entered l s n t
-  entered-new i = subst₃ (Entered l) (i .of-sender) (i .of-sn) (i .of-tn) (h .new (i .entry) (i .member))
+  pub entered-new : HasEntry (w .mem r .table) s n t → HasEntry l s n t
+  entered-new i = subst₃ (HasEntry l) (i .of-sender) (i .of-sn) (i .of-tn) (h .new (i .entry) (i .member))
 
-  pub entered-old : Entered l s n t → Entered (w .mem r .table) s n t
+  pub entered-old : HasEntry l s n t → HasEntry (w .mem r .table) s n t
   entered-old i =
       let (f, j, b) = h .old (i .entry) (i .member) in
       record { entry = f; member = j; of-sender = b .sender ∙ i .of-sender; of-sn = b .sn ∙ i .of-sn; of-tn = b .tn ∙ i .of-tn }
@@ -264,10 +265,10 @@ table-fill {w = w} inv r chare s n v h e found sent local remote =
 -- ---- an entry is noted
 pub table-note : {p : Pending} {w : World} → InvP p w → (r : ℕ) → Chare (w .job) r → (s n : ℕ)
     → (is-local (w .job) s r ≡ true → Acked w s r n)
-    → InvP p (put-table w r (change1 (for-message s n) note-entry (w .mem r .table)))
-unfolding note-entry
+    → InvP p (put-table w r (change1 (for-message s n) mark-noted (w .mem r .table)))
+unfolding mark-noted
 table-note {w = w} inv r chare s n acked =
-    table-change inv r chare s n note-entry
+    table-change inv r chare s n mark-noted
     (λ f i a b. record {
       sender = refl;
       sn = refl;

@@ -2,7 +2,7 @@
 use Rattle.lists.specs.Basics.{not-true, not-false, _≡_, refl, _-_, _≤_, arith, length, drop, drop-of-length-le, needs}
 use Rattle.restart.specs.{Gather.next, Limited.{more-end, more-on, more-stop}, Tables.{entering, entering-one}, Sources.copied}
 use Rattle.lists.specs.Lists.{gather}
-use Rattle.protocol.specs.Restart.{enter, copied-ticket}
+use Rattle.protocol.specs.Restart.{enter, ticket-of-entry}
 use Rattle.tickets.specs.{Table.{entries, entry-of}, EntryLaws.sender-small, Fits.entry-at}
 use Rattle.memory.specs.Places.{ROW}
 use Rattle.restart.proofs.table.from_copy.Statement.{statement}
@@ -18,7 +18,7 @@ loop-holds : tie.Need-loop-holds Inv-loop μ-loop
 loop-holds c = (search needs, search needs, refl)
 
 returns : tie.Need-returns Inv-loop μ-loop
-unfolding copied copied-ticket
+unfolding copied ticket-of-entry
 returns c =
     let a = c .before .before .before .before .before .before .before .before .before .before .before .args in
     let l = c .before .before .before .before .before .before .before .loop in
@@ -30,7 +30,7 @@ returns c =
     (entering-one (l .row) (e .last .0) (x .result .sender) _ _ (e .result) (l .inv .1) (rw (x .ensures, entry-at (a .t .now) (l .i)) (sender-small _)) (e .ensures)) (not-true _ (c .if1 .taken))
 
 loop-again : tie.Need-loop-again Inv-loop μ-loop
-unfolding copied copied-ticket
+unfolding copied ticket-of-entry
 loop-again c =
     let a = c .before .before .before .before .before .before .before .before .before .before .before .args in
     let l = c .before .before .before .before .before .before .before .loop in

@@ -2,7 +2,7 @@
 use Rattle.lists.specs.Basics.{not-true, not-false, _≡_, refl, sym, _∙_, _-_, _≤_, arith, length, drop, drop-of-length-le, needs}
 use Rattle.restart.specs.{Gather.{chosen, next}, Limited.{more-end, more-skip, more-on, more-stop}, Tables.{entering, entering-one}, Sources.logged}
 use Rattle.lists.specs.Lists.{gather}
-use Rattle.protocol.specs.Restart.{enter, logged-ticket}
+use Rattle.protocol.specs.Restart.{enter, ticket-of-logged}
 use Rattle.tickets.specs.Table.{entries}
 use Rattle.memory.specs.Places.{ROW}
 use Rattle.logs.specs.{Log.{entries as messages, logged-of}, Fits.at-fits}
@@ -19,7 +19,7 @@ loop-holds : tie.Need-loop-holds Inv-loop μ-loop
 loop-holds c = (search needs, search needs, refl)
 
 returns : tie.Need-returns Inv-loop μ-loop
-unfolding logged logged-ticket chosen
+unfolding logged ticket-of-logged chosen
 returns c =
     let a = c .before .before .before .before .before .before .before .before .before .before .before .before .before .before .args in
     let l = c .before .before .before .before .before .before .before .before .before .before .loop in
@@ -31,7 +31,7 @@ returns c =
     (rw (sym (c .before .before .before .before .before .before .before .is-above .ensures) ∙ c .before .before .before .before .before .before .if1 .taken) (entering-one (l .row) (e .last .0) (x .result .message .sender) _ _ (e .result) (l .inv .1) (rw (x .ensures) (at-fits (a .l .now) (l .i) .sender)) (e .ensures))) (not-true _ (c .if2 .taken))
 
 loop-again : tie.Need-loop-again Inv-loop μ-loop
-unfolding logged logged-ticket chosen
+unfolding logged ticket-of-logged chosen
 loop-again c =
     let a = c .before .before .before .before .before .before .before .before .before .before .before .before .before .before .args in
     let l = c .before .before .before .before .before .before .before .before .before .before .loop in

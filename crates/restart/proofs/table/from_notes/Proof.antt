@@ -2,7 +2,7 @@
 use Rattle.lists.specs.Basics.{not-true, not-false, _≡_, refl, _-_, _≤_, arith, eq-eqb, ne-eqb, lt-ltb, le-ltb, length, drop, drop-of-length-le, needs}
 use Rattle.restart.specs.{Gather.{chosen, next}, Limited.{more-end, more-skip, more-on, more-stop}, Tables.{entering, entering-one}, Sources.noted}
 use Rattle.lists.specs.Lists.{gather}
-use Rattle.protocol.specs.Restart.{enter, noted-ticket, is-noted-above}
+use Rattle.protocol.specs.Restart.{enter, ticket-of-note, is-note-above}
 use Rattle.tickets.specs.Table.{entries}
 use Rattle.memory.specs.Places.{ROW}
 use Rattle.notelist.specs.{Notes.{notes, note-of}, Fits.at-fits}
@@ -19,7 +19,7 @@ loop-holds : tie.Need-loop-holds Inv-loop μ-loop
 loop-holds c = (search needs, search needs, refl)
 
 returns : tie.Need-returns Inv-loop μ-loop
-unfolding noted noted-ticket chosen is-noted-above
+unfolding noted ticket-of-note chosen is-note-above
 returns c =
     let a = c .before .before .before .before .before .before .before .before .before .before .before .before .before .before .before .args in
     let l = c .before .before .before .before .before .before .before .before .before .before .before .loop in
@@ -32,7 +32,7 @@ returns c =
     (entering-one (l .row) (e .last .0) (x .result .sender) _ _ (e .result) (l .inv .1) (rw (x .ensures) (at-fits (a .w .now) (l .i) .sender)) (e .ensures))) (not-true _ (c .if3 .taken))
 
 loop-again : tie.Need-loop-again Inv-loop μ-loop
-unfolding noted noted-ticket chosen is-noted-above
+unfolding noted ticket-of-note chosen is-note-above
 loop-again c =
     let a = c .before .before .before .before .before .before .before .before .before .before .before .before .before .before .before .args in
     let l = c .before .before .before .before .before .before .before .before .before .before .before .loop in
@@ -48,7 +48,7 @@ loop-again c =
     )
 
 loop-again-2 : tie.Need-loop-again-2 Inv-loop μ-loop
-unfolding noted chosen is-noted-above
+unfolding noted chosen is-note-above
 loop-again-2 c =
     let a = c .before .before .before .before .before .before .before .before .before .before .args in
     let l = c .before .before .before .before .before .before .loop in
@@ -60,7 +60,7 @@ loop-again-2 c =
     )
 
 loop-again-3 : tie.Need-loop-again-3 Inv-loop μ-loop
-unfolding noted chosen is-noted-above
+unfolding noted chosen is-note-above
 loop-again-3 c =
     let a = c .before .before .before .before .before .before .before .before .args in
     let l = c .before .before .before .before .loop in
