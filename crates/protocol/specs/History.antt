@@ -29,6 +29,7 @@ no-history = record { injections = []; sequence = λ _. []; saved = λ _. [] }
 unfoldable pub message-of : ℕ → Entry → Message
 message-of c e = record { sender = e .sender; receiver = c; sn = e .sn; value = e .value; hops = e .hops }
 
+-- the message joins the sequence
 unfoldable pub add-worked : History → ℕ → Option Entry → History
 add-worked y c none = y
 add-worked y c (some e) =
@@ -57,14 +58,17 @@ is-accepted (Shown height state) = true
 is-accepted Lost = false
 is-accepted (Refused n) = false
 
+-- only an accepted frame adds
 unfoldable pub record-frame : State → History → Option Frame → Bool → History
 record-frame s y none a = y
 record-frame s y (some f) true = recorded s y f
 record-frame s y (some f) false = y
 
+-- what a line adds
 unfoldable pub record-line : State → History → Line → History
 record-line s y l = record-frame s y (frame l) (is-accepted (step s l .answer))
 
+-- along the lines
 unfoldable pub history-from : State → History → List Line → History
 history-from s y [] = y
 history-from s y (l ∷ ls) = history-from (step s l .state) (record-line s y l) ls
@@ -73,8 +77,10 @@ history-from s y (l ∷ ls) = history-from (step s l .state) (record-line s y l)
 unfoldable pub state-after : List Line → State
 state-after ls = play-all start ls
 
+-- "A program prints one line per frame."
 unfoldable pub answers-after : List Line → List Answer
 answers-after ls = answers-from start ls
 
+-- from nothing
 unfoldable pub history-after : List Line → History
 history-after ls = history-from start no-history ls
