@@ -7,17 +7,17 @@ use Prim.Native.Nat.{ℕ, _<_}
 use lib.Dec.{eqb}
 use lib.ListN.{length}
 use borrow.Author.Tests.{eqb-true, ltb-true}
-use Rattle.lists.specs.Tests.{either, true-not-false, and-l, and-r}
+use Rattle.lists.specs.Tests.{either, and-l, and-r}
 use Rattle.lists.specs.Lists.{_∈_, keep, keep-mem, gather, gather-mem}
 use Rattle.lists.specs.Keys.{NoDup}
 use Rattle.protocol.specs.declared.Logged.{Logged}
 use Rattle.protocol.specs.declared.Entry.{Entry}
 use Rattle.protocol.specs.Parts.{State, on, every-chare}
-use Rattle.protocol.specs.Tickets.{for-message, highest, fill, filled, unreceived}
-use Rattle.protocol.specs.Restart.{is-ticketed-above, local-log, restored-table, fill-all, filled-table, restored}
+use Rattle.protocol.specs.Tickets.{for-message, fill, filled}
+use Rattle.protocol.specs.Restart.{is-ticketed-above, local-log, restored-table, fill-all, filled-table}
 use Rattle.protocol.specs.Recovery.Laws.Changes.{Key, mem-change1-either}
 use Rattle.protocol.specs.Recovery.Laws.Lookups.{filled-old, nodup-filled, length-filled, entry-key}
-use Rattle.protocol.specs.Recovery.Laws.Restored.{Source, restored-table-mem, restored-the, nodup-restored-table}
+use Rattle.protocol.specs.Recovery.Laws.Restored.{Source, restored-table-mem, nodup-restored-table}
 
 -- y is e, but for what a fill changes
 pub record SameTicket (e y : Entry) : Type 0 where
@@ -184,27 +184,3 @@ module _ (s : State) (p c : ℕ) where
       let r = filled-table-mem i in
       let same = r .same in
       subst₃ (Source s p c) (sym (same .same-sender)) (sym (same .same-sn)) (sym (same .same-tn)) (restored-table-mem s p c (r .member) .source)
-
-  pub filled-table-noted : {y : Entry} → y ∈ filled-table s p c → y .noted ≡ true
-  unfolding unreceived
-  filled-table-noted i =
-      let r = filled-table-mem i in
-      r .same .same-noted ∙ ap (λ (e : Entry). e .noted) (restored-table-mem s p c (r .member) .plain)
-
-  pub filled-table-received : {y : Entry} → y ∈ filled-table s p c → y .received ≡ true → FilledBy (LoggedHere s p c) y
-  unfolding unreceived
-  filled-table-received i e =
-      let r = filled-table-mem i in
-      elim (r .how) [
-        | inl q ↦ true-not-false e (ap (λ (e : Entry). e .received) (q ∙ restored-table-mem s p c (r .member) .plain))
-        | inr b ↦ b
-      ]
-
-  -- where all sources of a ticket agree on its TN, its entry is there
-  pub filled-table-the : {a n t : ℕ} → Source s p c a n t → ((u : ℕ) → Source s p c a n u → u ≡ t) → (y : Entry) × (y ∈ filled-table s p c) × SameTicket (unreceived a n t) y
-  filled-table-the r agree = mem-filled-table (restored-the s p c r agree)
-
-  -- `highest-at-restart` is the highest TN at the restart
-  pub restored-top : restored s p c .highest-at-restart ≡ highest (restored s p c .height) (restored s p c .table)
-  unfolding restored
-  restored-top = refl

@@ -1,5 +1,5 @@
 -- Looking up by key, and changing what has a key: tables by sender and SN, logs by receiver and SN.
-use mathlib.Core.Path.{_≡_, refl, ap, sym, _∙_}
+use mathlib.Core.Path.{_≡_, refl, ap}
 use mathlib.Core.Logic.{_≢_, _⊎_}
 use mathlib.Core.List.{List}
 use mathlib.Core.Option.{Option, some, none}
@@ -7,20 +7,19 @@ use Prim.Native.Nat.{ℕ, _+_}
 use native.Mathlib.Omega.{arith}
 use lib.Dec.{eqb}
 use lib.ListN.{length}
-use borrow.Author.Tests.{eqb-true, eqb-false}
+use borrow.Author.Tests.{eqb-true}
 use Rattle.lists.specs.Tests.{either}
-use Rattle.lists.specs.Lists.{_∈_, find, find-some, find-none, find-the, remove1, change1, length-change1}
-use Rattle.lists.specs.Keys.{NoDup, uniq, nodup-remove1, nodup-change1}
+use Rattle.lists.specs.Lists.{_∈_, find, find-some, find-none, remove1, length-change1}
+use Rattle.lists.specs.Keys.{NoDup, nodup-remove1, nodup-change1}
 use Rattle.protocol.specs.declared.Message.{Message}
 use Rattle.protocol.specs.declared.Logged.{Logged}
 use Rattle.protocol.specs.declared.Entry.{Entry}
-use Rattle.protocol.specs.declared.Lookup.the-variants.{Missing, Ticketed, Unticketed}
+use Rattle.protocol.specs.declared.Lookup.the-variants.{Unticketed}
 use Rattle.protocol.specs.Parts.{Memory}
-use Rattle.protocol.specs.Tickets.{for-message, entry, has-tn, fill, filled, mark-noted}
+use Rattle.protocol.specs.Tickets.{for-message, entry, has-tn, fill, filled}
 use Rattle.protocol.specs.Working.{next-entry}
 use Rattle.protocol.specs.Packets.{for-receiver, looked-up, lookup, set-tn, ticketed}
-use Rattle.protocol.specs.Recovery.Laws.Changes.{Key, Tests, Changed, pair-true, true-pair, no-key, change-old, change-other, change-mem, mem-change, remove-mem, mem-remove}
-use Rattle.protocol.specs.Recovery.Laws.NewTicket.{NotEntered}
+use Rattle.protocol.specs.Recovery.Laws.Changes.{Key, Tests, pair-true, true-pair, no-key, change-old, change-other, mem-change, mem-remove}
 
 abbrev pub entry-key : Entry → Key
 entry-key e = (e .sender, e .sn)
@@ -51,19 +50,9 @@ pub entry-none : (l : List Entry) (s n : ℕ) → entry l s n ≡ none → (e : 
 unfolding entry
 entry-none l s n q e i = no-key (tests-entry s n) e (find-none (for-message s n) l q e i)
 
-pub entry-the : {l : List Entry} {e : Entry} (s n : ℕ) → NoDup entry-key l → e ∈ l → entry-key e ≡ (s, n) → entry l s n ≡ some e
-unfolding entry
-entry-the {l} {e} s n h i k =
-    let t = tests-entry s n in
-    find-the (for-message s n) l i (t .key-yes e k) (λ y j g. uniq entry-key h j i (t .yes-key y g ∙ sym k))
-
 pub next-entry-some : (m : Memory) {e : Entry} → next-entry m ≡ some e → (e ∈ m .table) × (e .tn ≡ m .height + 1)
 unfolding next-entry has-tn
 next-entry-some m q = let r = find-some (has-tn (m .height + 1)) (m .table) q in (r .0, eqb-true _ _ (r .1))
-
-pub next-entry-none : (m : Memory) → next-entry m ≡ none → NotEntered (m .table) (m .height + 1)
-unfolding next-entry has-tn
-next-entry-none m q e i = eqb-false _ _ (find-none (has-tn (m .height + 1)) (m .table) q e i)
 
 -- ---- looking up in a log
 -- the log has the message m under r and n, without a TN
@@ -95,44 +84,11 @@ lookup-unticketed l r n {m} = go (find (for-receiver r n) l) refl
         })
         (λ f. absurd (let g = rw f at e in let z : _≡_ {A = ℕ} 0 1 = cc in omega arith))
 
--- it has one with a TN
-pub lookup-ticketed : (l : List Logged) (r n : ℕ) → lookup l r n ≡ Ticketed → (x : Logged) × (x ∈ l) × (logged-key x ≡ (r, n)) × (x .tn ≢ 0)
-unfolding lookup looked-up
-lookup-ticketed l r n = go (find (for-receiver r n) l) refl
-  where
-    go : (o : Option Logged) → find (for-receiver r n) l ≡ o → looked-up o ≡ Ticketed → (x : Logged) × (x ∈ l) × (logged-key x ≡ (r, n)) × (x .tn ≢ 0)
-    go none q e = absurd (let z : _≡_ {A = ℕ} 0 1 = cc in omega arith)
-    go (some x) q e = either (eqb (x .tn) 0)
-        (λ f. absurd (let g = rw f at e in let z : _≡_ {A = ℕ} 0 1 = cc in omega arith))
-        (λ f. let i = find-some (for-receiver r n) l q in (x, i .0, tests-logged r n .yes-key x (i .1), eqb-false _ _ f))
-
-pub lookup-missing : (l : List Logged) (r n : ℕ) → lookup l r n ≡ Missing → (x : Logged) → x ∈ l → logged-key x ≢ (r, n)
-unfolding lookup looked-up
-lookup-missing l r n = go (find (for-receiver r n) l) refl
-  where
-    go : (o : Option Logged) → find (for-receiver r n) l ≡ o → looked-up o ≡ Missing → (x : Logged) → x ∈ l → logged-key x ≢ (r, n)
-    go none q e x i = no-key (tests-logged r n) x (find-none (for-receiver r n) l q x i)
-    go (some y) q e x i = absurd (either (eqb (y .tn) 0)
-        (λ f. let g = rw f at e in let z : _≡_ {A = ℕ} 0 1 = cc in omega arith)
-        (λ f. let g = rw f at e in let z : _≡_ {A = ℕ} 0 1 = cc in omega arith))
-
 -- ---- a table with the entry of sender s and SN n filled
 module _ (s n value hops : ℕ) where
   pub filled-old : {y : Entry} (l : List Entry) → y ∈ filled s n value hops l → (y ∈ l) ⊎ ((x : Entry) × (x ∈ l) × (entry-key x ≡ (s, n)) × (y ≡ fill value hops x))
   unfolding filled
   filled-old = change-old (tests-entry s n) (fill value hops)
-
-  pub filled-mem : {y : Entry} (l : List Entry) → NoDup entry-key l → y ∈ filled s n value hops l → Changed entry-key (s, n) (fill value hops) l y
-  unfolding filled
-  filled-mem = change-mem (tests-entry s n) (fill value hops)
-
-  pub mem-filled : {x : Entry} {l : List Entry} → NoDup entry-key l → x ∈ l → entry-key x ≡ (s, n) → fill value hops x ∈ filled s n value hops l
-  unfolding filled
-  mem-filled = mem-change (tests-entry s n) (fill value hops)
-
-  pub filled-other : {x : Entry} {l : List Entry} → x ∈ l → entry-key x ≢ (s, n) → x ∈ filled s n value hops l
-  unfolding filled
-  filled-other = change-other (tests-entry s n) (fill value hops)
 
   pub nodup-filled : (l : List Entry) → NoDup entry-key l → NoDup entry-key (filled s n value hops l)
   unfolding filled fill
@@ -143,32 +99,11 @@ module _ (s n value hops : ℕ) where
   length-filled l = length-change1 (for-message s n) (fill value hops) l
 
 -- ---- with it noted
-module _ (s n : ℕ) where
-  pub noted-old : {y : Entry} (l : List Entry) → y ∈ change1 (for-message s n) mark-noted l → (y ∈ l) ⊎ ((x : Entry) × (x ∈ l) × (entry-key x ≡ (s, n)) × (y ≡ mark-noted x))
-  noted-old = change-old (tests-entry s n) mark-noted
-
-  pub noted-mem : {y : Entry} (l : List Entry) → NoDup entry-key l → y ∈ change1 (for-message s n) mark-noted l → Changed entry-key (s, n) mark-noted l y
-  noted-mem = change-mem (tests-entry s n) mark-noted
-
-  pub mem-noted : {x : Entry} {l : List Entry} → NoDup entry-key l → x ∈ l → entry-key x ≡ (s, n) → mark-noted x ∈ change1 (for-message s n) mark-noted l
-  mem-noted = mem-change (tests-entry s n) mark-noted
-
-  pub noted-other : {x : Entry} {l : List Entry} → x ∈ l → entry-key x ≢ (s, n) → x ∈ change1 (for-message s n) mark-noted l
-  noted-other = change-other (tests-entry s n) mark-noted
-
-  pub nodup-noted : (l : List Entry) → NoDup entry-key l → NoDup entry-key (change1 (for-message s n) mark-noted l)
-  unfolding mark-noted
-  nodup-noted l = nodup-change1 entry-key (for-message s n) mark-noted l (λ x. refl)
-
 -- ---- a log with the TN of the message to r with SN n set to t
 module _ (r n t : ℕ) where
   pub ticketed-old : {y : Logged} (l : List Logged) → y ∈ ticketed r n t l → (y ∈ l) ⊎ ((x : Logged) × (x ∈ l) × (logged-key x ≡ (r, n)) × (y ≡ set-tn t x))
   unfolding ticketed
   ticketed-old = change-old (tests-logged r n) (set-tn t)
-
-  pub ticketed-mem : {y : Logged} (l : List Logged) → NoDup logged-key l → y ∈ ticketed r n t l → Changed logged-key (r, n) (set-tn t) l y
-  unfolding ticketed
-  ticketed-mem = change-mem (tests-logged r n) (set-tn t)
 
   pub mem-ticketed : {x : Logged} {l : List Logged} → NoDup logged-key l → x ∈ l → logged-key x ≡ (r, n) → set-tn t x ∈ ticketed r n t l
   unfolding ticketed
@@ -184,9 +119,6 @@ module _ (r n t : ℕ) where
 
 -- ---- a log without the message to r with SN n
 module _ (r n : ℕ) where
-  pub removed-mem : {y : Logged} (l : List Logged) → NoDup logged-key l → y ∈ remove1 (for-receiver r n) l → (y ∈ l) × (logged-key y ≢ (r, n))
-  removed-mem = remove-mem (tests-logged r n)
-
   pub mem-removed : {x : Logged} {l : List Logged} → x ∈ l → logged-key x ≢ (r, n) → x ∈ remove1 (for-receiver r n) l
   mem-removed = mem-remove (tests-logged r n)
 

@@ -1,10 +1,10 @@
 -- New tickets, holes and targets: which TNs a table has.
-use mathlib.Core.Path.{_≡_, refl, sym, ap, _∙_, subst}
+use mathlib.Core.Path.{_≡_, refl, ap, subst}
 use mathlib.Core.Bool.{true, false}
-use mathlib.Core.Logic.{_≢_, _⊎_, inl, inr}
+use mathlib.Core.Logic.{_≢_, inl, inr}
 use mathlib.Core.List.{List, [], _∷_, List·Memᴰ·head as here, List·Memᴰ·tail as there}
 use mathlib.Core.Option.{Option, some, none}
-use Prim.Native.Nat.{ℕ, zero, suc, _+_, _-_, _≤_, _<_, max}
+use Prim.Native.Nat.{ℕ, zero, suc, _+_, _-_, _≤_, _<_}
 use native.Mathlib.Omega.{arith}
 use borrow.Author.Tests.{eqb-true, eqb-false}
 use Rattle.lists.specs.Tests.{either, eq?, lt?}
@@ -31,16 +31,6 @@ pub highest-above : {e : Entry} {l : List Entry} (h : ℕ) → e ∈ l → e .tn
 unfolding highest
 highest-above h (here {x = x} {xs = l} q) = let r = ap (λ (y : Entry). y .tn) q in omega arith
 highest-above h (there {x = x} {xs = l} i) = let r = highest-above h i in omega arith
-
-pub highest-is : (h : ℕ) (l : List Entry) → (highest h l ≡ h) ⊎ Entered l (highest h l)
-unfolding highest
-highest-is h [] = inl refl
-highest-is h (e ∷ l) = elim (lt? (e .tn) (highest h l)) [
-  | inl a ↦
-      let q : max (e .tn) (highest h l) ≡ highest h l = omega arith in
-      elim (highest-is h l) [ inl r ↦ inl (q ∙ r) | inr r ↦ inr (r .0, there (r .1), r .2 ∙ sym q) ]
-  | inr a ↦ inr (e, here refl, omega arith)
-]
 
 -- ---- the first number that no entry has
 pub record Free (k t : ℕ) (l : List Entry) (u : ℕ) : Type 0 where
@@ -152,18 +142,3 @@ module _ (m : Memory) where
           let r = hole-some _ _ _ e in
           let f = r .above in
           elim (lt? v t) [ inl b ↦ omega arith | inr b ↦ let (x, i, q) = has t f b in absurd (r .free x i q) ]
-
-  -- every TN above the height up to the target has an entry; `highest-at-restart` is the highest at the restart
-  pub target-has : m .highest-at-restart ≡ highest (m .height) (m .table) → (t : ℕ) → m .height < t → t ≤ target-of m → Entered (m .table) t
-  unfolding target-of below-hole
-  target-has top t a b = go (lowest-hole (m .height) (m .highest-at-restart) (m .table)) refl b
-    where
-      go : (o : Option ℕ) → lowest-hole (m .height) (m .highest-at-restart) (m .table) ≡ o → t ≤ below-hole o (highest (m .height) (m .table)) → Entered (m .table) t
-      go none e b = elim (lt? t (m .highest-at-restart)) [
-        | inl c ↦ hole-none _ _ _ e t a c
-        | inr c ↦ elim (highest-is (m .height) (m .table)) [
-          | inl q ↦ absurd (omega arith)
-          | inr r ↦ let q : highest (m .height) (m .table) ≡ t = omega arith in (r .0, r .1, r .2 ∙ q)
-        ]
-      ]
-      go (some u) e b = let r = hole-some _ _ _ e in let f = r .above in r .taken t a (omega arith)

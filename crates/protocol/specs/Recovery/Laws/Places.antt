@@ -25,10 +25,6 @@ module _ {A : Type 0} where
   pub take-within : {a b : List A} → Prefix a b → (k : ℕ) → k ≤ length a → take k b ≡ take k a
   take-within {a} p k h = ap (take k) (p .joined) ∙ take-append-le k a (p .rest) h
 
-  pub prefix-nil : {l : List A} → Prefix l [] → l ≡ []
-  prefix-nil {l = []} p = refl
-  prefix-nil {l = x ∷ l} p = absurd (let e = p .joined in let z : _≡_ {A = ℕ} 0 1 = cc in omega arith)
-
 module _ {A K : Type 0} (k : A → K) where
   -- equal keys stand at equal places
   same-place : (b b′ : List A) (m m′ : A) (a a′ : List A) → NoDup k (b ++ (m ∷ a)) → b ++ (m ∷ a) ≡ b′ ++ (m′ ∷ a′) → k m ≡ k m′ → length b ≡ length b′
@@ -146,10 +142,3 @@ place-at (x ∷ l) (suc zero) h k = (x .sender, x .sn, record { before = []; mes
 place-at (x ∷ l) (suc (suc t)) h k =
     let (s, n, p) = place-at l (suc t) (omega arith) (omega arith) in
     (s, n, record { before = x ∷ p .before; message = p .message; after = p .after; split = ap (x ∷_) (p .split); place = ap suc (p .place); of-sender = p .of-sender; of-sn = p .of-sn })
-
-pub place-short : {t s n : ℕ} (l : List Message) (m : Message) → Place (l ++ (m ∷ [])) t s n → t ≤ length l → Place l t s n
-place-short {t} {s} {n} l m p h =
-    let b = place-bound p in
-    let (s′, n′, q) = place-at l t (b .0) h in
-    let e = place-same p (place-append (m ∷ []) q) in
-    subst (λ s. Place l t s n) (sym (e .0)) (subst (λ n. Place l t s′ n) (sym (e .1)) q)

@@ -2,7 +2,7 @@
 -- once, with one body; what is unworked is what is sent and not worked.
 use mathlib.Core.Path.{_≡_, refl, sym, ap, _∙_, subst, subst₂, subst₃}
 use mathlib.Core.Logic.{_≢_, _⊎_, inl, inr}
-use mathlib.Core.List.{List, [], _∷_, List·Memᴰ·head as here, List·Memᴰ·not-nil}
+use mathlib.Core.List.{List, List·Memᴰ·not-nil}
 use mathlib.Core.Option.{some, none}
 use Prim.Native.Nat.{ℕ, _+_, _≤_}
 use native.Mathlib.Omega.{arith}
@@ -12,7 +12,7 @@ use Rattle.protocol.specs.declared.Message.{Message}
 use Rattle.protocol.specs.Parts.{Job}
 use Rattle.protocol.specs.CrashFree.{Run, run-start}
 use Rattle.protocol.specs.Recovery.Laws.Options.{some-none}
-use Rattle.protocol.specs.Recovery.Run.Fold.{Local, local-start, folded, folded-nil, prefix-mem, out-prefix, sn-grows}
+use Rattle.protocol.specs.Recovery.Run.Fold.{Local, local-start, folded, folded-nil, prefix-mem, out-prefix}
 
 -- m has been sent in the run: it is unworked, or its receiver has worked it
 abbrev pub Sent : Run → Message → Type 0
@@ -86,11 +86,6 @@ module _ {made : ℕ → Local} {x : Run} (ok : Consistent made x) where
   unworked-new a r n m e y i q =
       some-none (subst₂ (λ a n. x .unworked a r n ≡ some m) (sym (ap (λ k. k .0) q)) (sym (ap (λ k. k .1) q)) e) (ok .worked-once r y i)
 
-  pub sent-worked-or-not : (m : Message) → Sent x m
-      → (m ∈ x .worked (m .receiver)) ⊎ ((x .unworked (m .sender) (m .receiver) (m .sn) ≡ some m) × All (λ y. message-key y ≢ message-key m) (x .worked (m .receiver)))
-  sent-worked-or-not m (inl e) = inr (e, unworked-new _ _ _ m e)
-  sent-worked-or-not m (inr i) = inl i
-
   -- sent, and its key is not worked: unworked
   pub sent-unworked : (m : Message) → Sent x m → All (λ y. message-key y ≢ message-key m) (x .worked (m .receiver))
       → x .unworked (m .sender) (m .receiver) (m .sn) ≡ some m
@@ -112,18 +107,7 @@ module _ {made : ℕ → Local} {x : Run} (ok : Consistent made x) where
     worked-once = ok .worked-once;
   }
 
-  -- the desk works nothing
-  pub desk-worked : x .worked 0 ≡ []
-  desk-worked = go (x .worked 0) refl
-    where
-      go : (l : List Message) → x .worked 0 ≡ l → l ≡ []
-      go [] e = refl
-      go (m ∷ l) e = let i : m ∈ x .worked 0 = subst (m ∈_) (sym e) (here refl) in absurd (ok .bounds m (worked-sent 0 m i) .2 (ok .to 0 m i))
-
 -- what a chare makes of a beginning of what it worked is within what it made of the whole
 module _ (j : Job) {x : Run} (ok : RunOk j x) (c : ℕ) (chare : c ≢ 0) {l : List Message} (p : Prefix l (x .worked c)) where
   pub prefix-sent : All (Sent x) (folded j c l .out)
   prefix-sent m i = ok .outs c chare m (prefix-mem (out-prefix j c p) i)
-
-  pub prefix-sn : (r : ℕ) → folded j c l .sn r ≤ x .sn c r
-  prefix-sn r = rw (ok .counts c chare) (sn-grows j c p r)

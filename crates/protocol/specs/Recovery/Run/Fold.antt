@@ -52,28 +52,6 @@ unfoldable pub folded : Job → ℕ → List Message → Local
 folded j c l = follow j c (local-start c) l
 
 -- ---- step by step
-module _ (c : ℕ) (x : Local) (r value hops : ℕ) where
-  pub local-send-state : local-send c x r value hops .state ≡ x .state
-  unfolding local-send
-  local-send-state = refl
-
-  pub local-send-sn : local-send c x r value hops .sn ≡ upd r (x .sn r + 1) (x .sn)
-  unfolding local-send
-  local-send-sn = refl
-
-  pub local-send-out : local-send c x r value hops .out ≡ x .out ++ (local-next c x r value hops ∷ [])
-  unfolding local-send
-  local-send-out = refl
-
-pub local-send-all-nil : (c : ℕ) (x : Local) (value hops : ℕ) → local-send-all c x [] value hops ≡ x
-unfolding local-send-all
-local-send-all-nil c x value hops = refl
-
-pub local-send-all-cons : (c : ℕ) (x : Local) (r : ℕ) (l : List ℕ) (value hops : ℕ)
-    → local-send-all c x (r ∷ l) value hops ≡ local-send-all c (local-send c x r value hops) l value hops
-unfolding local-send-all
-local-send-all-cons c x r l value hops = refl
-
 -- sending leaves the state
 pub local-send-all-state : (c : ℕ) (x : Local) (l : List ℕ) (value hops : ℕ) → local-send-all c x l value hops .state ≡ x .state
 unfolding local-send-all local-send
@@ -84,10 +62,6 @@ pub local-work-sends : (j : Job) (c : ℕ) (x : Local) (m : Message)
     → local-work j c x m ≡ local-send-all c (local-take x m) (receivers (ports j) c (m .hops)) (sent-value (local-take x m .state)) (m .hops - 1)
 unfolding local-work
 local-work-sends j c x m = refl
-
-pub local-work-state : (j : Job) (c : ℕ) (x : Local) (m : Message) → local-work j c x m .state ≡ work (x .state) (m .value)
-unfolding local-work
-local-work-state j c x m = local-send-all-state c (local-take x m) _ _ _
 
 pub folded-nil : (j : Job) (c : ℕ) → folded j c [] ≡ local-start c
 unfolding folded follow

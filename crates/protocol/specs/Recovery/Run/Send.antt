@@ -9,7 +9,7 @@ use Rattle.lists.specs.Tests.{eq?}
 use Rattle.lists.specs.Map.{upd, upd-same, upd-other, upd-upd, upd-ind, upd-ind₂}
 use Rattle.lists.specs.Lists.{_∈_, All, all-snoc}
 use Rattle.protocol.specs.declared.Message.{Message}
-use Rattle.protocol.specs.CrashFree.{Run, upd3, run-send, run-send-all}
+use Rattle.protocol.specs.CrashFree.{Run, run-send, run-send-all}
 use Rattle.protocol.specs.Recovery.Laws.Options.{some-inj}
 use Rattle.protocol.specs.Recovery.Run.Fold.{Local, local-next, local-send, local-send-all, prefix-mem, send-all-grows}
 use Rattle.protocol.specs.Recovery.Run.Nested.{upd2-ind, upd3-ind, upd3-same, upd3-other}
@@ -20,14 +20,6 @@ module _ (x : Run) (s r value hops : ℕ) where
   unfolding run-send
   send-worked = refl
 
-  pub send-state : run-send x s r value hops .state ≡ x .state
-  unfolding run-send
-  send-state = refl
-
-  pub send-sn : run-send x s r value hops .sn ≡ upd s (upd r (x .sn s r + 1) (x .sn s)) (x .sn)
-  unfolding run-send
-  send-sn = refl
-
   pub send-sn-same : run-send x s r value hops .sn s ≡ upd r (x .sn s r + 1) (x .sn s)
   unfolding run-send
   send-sn-same = upd-same s _ (x .sn)
@@ -35,10 +27,6 @@ module _ (x : Run) (s r value hops : ℕ) where
   pub send-sn-other : (a : ℕ) → a ≢ s → run-send x s r value hops .sn a ≡ x .sn a
   unfolding run-send
   send-sn-other a h = upd-other s _ (x .sn) a h
-
-  pub send-unworked : run-send x s r value hops .unworked ≡ upd3 s r (x .sn s r + 1) (some (run-next x s r value hops)) (x .unworked)
-  unfolding run-send
-  send-unworked = refl
 
   -- the new message is sent
   pub send-sends : Sent (run-send x s r value hops) (run-next x s r value hops)

@@ -1,23 +1,21 @@
 -- What a work changes in a run, and that the run stays consistent.
-use mathlib.Core.Path.{_≡_, refl, sym, ap, _∙_, subst, subst⁻¹, subst₃}
+use mathlib.Core.Path.{_≡_, refl, sym, ap, _∙_, subst, subst₃}
 use mathlib.Core.Logic.{_≢_, _⊎_, inl, inr}
 use mathlib.Core.List.{[], _∷_, _++_, List·Memᴰ·head as here, Memᴰ·append-left, Memᴰ·append-right}
 use mathlib.Core.Option.{some, none}
-use Prim.Native.Nat.{ℕ, _-_, _≤_}
-use native.Mathlib.Omega.{arith}
-use Rattle.lists.specs.Tests.{eq?}
+use Prim.Native.Nat.{ℕ, _-_}
 use Rattle.lists.specs.Map.{upd, upd-same, upd-ind, upd-ind₂}
-use Rattle.lists.specs.Lists.{_∈_, All, all-snoc, prefix-refl, prefix-snoc}
+use Rattle.lists.specs.Lists.{_∈_, All, all-snoc}
 use Rattle.lists.specs.Keys.{NoDup, nodup-snoc}
 use Rattle.protocol.specs.declared.Message.{Message}
 use Rattle.protocol.specs.Parts.{Job}
 use Rattle.protocol.specs.Work.{work, receivers, sent-value, ports}
 use Rattle.protocol.specs.CrashFree.{Run, Work, upd3, run-take, run-work}
 use Rattle.protocol.specs.Recovery.Laws.Options.{some-none, some-inj}
-use Rattle.protocol.specs.Recovery.Run.Fold.{Local, local-take, local-send-all, local-work, folded, folded-snoc, sn-grows, receivers-chares}
+use Rattle.protocol.specs.Recovery.Run.Fold.{Local, local-take, local-send-all, local-work, folded, folded-snoc, receivers-chares}
 use Rattle.protocol.specs.Recovery.Run.Nested.{upd3-ind, upd3-same}
 use Rattle.protocol.specs.Recovery.Run.Facts.{Sent, message-key, Consistent, RunOk, unworked-sent, unworked-new, consistent-same}
-use Rattle.protocol.specs.Recovery.Run.Send.{send-all-worked, send-all-state, send-all-sn-other, send-all-consistent, sent-after-all, sent-before-all}
+use Rattle.protocol.specs.Recovery.Run.Send.{send-all-worked, send-all-sn-other, send-all-consistent, sent-after-all, sent-before-all}
 
 -- ---- the message is taken out and put at the end of its receiver's
 module _ {made : ℕ → Local} {x : Run} (ok : Consistent made x) (w : Work) (m : Message) (found : x .unworked (w .sender) (w .receiver) (w .sn) ≡ some m) where
@@ -98,10 +96,6 @@ module _ (j : Job) (x : Run) (w : Work) (m : Message) where
   unfolding run-work run-take
   work-worked = send-all-worked (w .receiver) _ _ (run-take x w m) _
 
-  pub work-state : run-work (ports j) x w m .state ≡ upd (w .receiver) (work (x .state (w .receiver)) (m .value)) (x .state)
-  unfolding run-work run-take
-  work-state = send-all-state (w .receiver) _ _ (run-take x w m) _
-
   pub work-sn-other : (a : ℕ) → a ≢ w .receiver → run-work (ports j) x w m .sn a ≡ x .sn a
   unfolding run-work run-take
   work-sn-other a h = send-all-sn-other (w .receiver) _ _ (run-take x w m) _ a h
@@ -136,15 +130,3 @@ module _ (j : Job) (x : Run) (ok : RunOk j x) (w : Work) (m : Message) (found : 
         | inl h ↦ inl (sent-back ok w m found y h)
         | inr h ↦ inr (subst (λ l. y ∈ l .out) made-more h)
       ]
-
-  -- the receiver's counts are those of the longer list
-  pub work-sn : run-work (ports j) x w m .sn (w .receiver) ≡ folded j (w .receiver) (x .worked (w .receiver) ++ (m ∷ [])) .sn
-  work-sn = work-ok .counts (w .receiver) (found-chare ok w m found)
-      ∙ ap (λ l. folded j (w .receiver) l .sn) (ap (λ f. f (w .receiver)) (work-worked j x w m) ∙ upd-same (w .receiver) _ (x .worked))
-
-  pub work-sn-grows : (a b : ℕ) → x .sn a b ≤ run-work (ports j) x w m .sn a b
-  work-sn-grows a b = elim (eq? a (w .receiver)) [
-    | inl e ↦ subst⁻¹ (λ a. x .sn a b ≤ run-work (ports j) x w m .sn a b) e
-        (rw (work-sn, ok .counts (w .receiver) (found-chare ok w m found)) (sn-grows j (w .receiver) (prefix-snoc m (prefix-refl (x .worked (w .receiver)))) b))
-    | inr e ↦ rw (work-sn-other j x w m a e) (omega arith)
-  ]

@@ -143,11 +143,6 @@ module _ {w : World} {r : ℕ} {l : List Entry} (h : Rewritten w r l) {s n t : �
   pub entered-new : HasEntry (w .mem r .table) s n t → HasEntry l s n t
   entered-new i = subst₃ (HasEntry l) (i .of-sender) (i .of-sn) (i .of-tn) (h .new (i .entry) (i .member))
 
-  pub entered-old : HasEntry l s n t → HasEntry (w .mem r .table) s n t
-  entered-old i =
-      let (f, j, b) = h .old (i .entry) (i .member) in
-      record { entry = f; member = j; of-sender = b .sender ∙ i .of-sender; of-sn = b .sn ∙ i .of-sn; of-tn = b .tn ∙ i .of-tn }
-
 module _ {p : Pending} {w : World} (inv : InvP p w) (r : ℕ) (chare : Chare (w .job) r) (l : List Entry) (h : Rewritten w r l) where
   -- what the name and the TN of each old entry say, those of each new entry say
   carry : (P : ℕ → ℕ → ℕ → Type 0) → All (λ f. P (f .sender) (f .sn) (f .tn)) (w .mem r .table) → All (λ e. P (e .sender) (e .sn) (e .tn)) l
