@@ -1,7 +1,7 @@
 -- Words that are all 0.
-use Rattle.lists.specs.Basics.{_≡_, refl, sym, ap, _∙_, List, [], _∷_, _++_, ℕ, suc, zero, _+_, _-_, _≤_, _<_, min, arith, add-one, length, take, drop, getD, set, replicate}
+use Rattle.lists.specs.Basics.{_≡_, refl, sym, ap, _∙_, List, [], _∷_, _++_, ℕ, suc, zero, _+_, _-_, _≤_, _<_, arith, add-one, length, take, drop, getD, set, replicate}
 use Rattle.lists.specs.Basics.{take-suc-set, take-all}
-use Rattle.words.specs.{Part.part, Rows.row}
+use Rattle.words.specs.Part.{part}
 
 abbrev pub zeros : ℕ → List ℕ
 zeros n = replicate n 0
@@ -34,7 +34,3 @@ drop-zeros (suc n) (suc a) = let e : suc n - suc a ≡ n - a = omega arith in rw
 
 pub part-zeros : (n a k : ℕ) → a + k ≤ n → part a k (zeros n) ≡ zeros k
 part-zeros n a k h = rw (drop-zeros n a) (take-zeros (n - a) k (omega arith))
-
-pub row-zeros : (n : ℕ) → row (zeros n) ≡ []
-unfolding row
-row-zeros n = let e : min 0 (length (zeros n) - 1) ≡ 0 = omega arith in rw (zero-at n 0, e)

@@ -68,16 +68,6 @@ module _ {A : Type 0} {key : A → Key} {k : Key} {p : A → Bool} (t : Tests ke
 
 -- the list without its one of key k
 module _ {A : Type 0} {key : A → Key} {k : Key} {p : A → Bool} (t : Tests key k p) where
-  pub remove-mem : {y : A} (l : List A) → NoDup key l → y ∈ remove1 p l → (y ∈ l) × (key y ≢ k)
-  unfolding remove1 NoDup
-  remove-mem [] h i = absurd (List·Memᴰ·not-nil i)
-  remove-mem {y} (x ∷ l) h i = either (p x)
-      (λ e. let j = rw e at i in (there j, λ q. h .0 y j (q ∙ sym (t .yes-key x e))))
-      (λ e. elim (List·Memᴰ·cases-cons (rw e at i)) [
-        | inl q ↦ (here q, no-key t y (ap p q ∙ e))
-        | inr j ↦ let r = remove-mem l (h .1) j in (there (r .0), r .1)
-      ])
-
   pub mem-remove : {x : A} {l : List A} → x ∈ l → key x ≢ k → x ∈ remove1 p l
   mem-remove {x} i d = mem-remove1 p i (key-no t x d)
 

@@ -124,9 +124,6 @@ module _ (j : Job) (c : ℕ) {a b : List Message} (p : Prefix a b) where
   pub out-prefix : Prefix (folded j c a .out) (folded j c b .out)
   out-prefix = folded-grows .out
 
-  pub sn-grows : (r : ℕ) → folded j c a .sn r ≤ folded j c b .sn r
-  sn-grows r = folded-grows .sn r
-
 -- ---- what an outbox holds
 -- a message of chare c that is within the counts of x, to a chare and not to the desk
 pub record Mailed (c : ℕ) (x : Local) (m : Message) : Type 0 where

@@ -121,11 +121,6 @@ module _ (s value hops : ℕ) where
   send-all-worked x [] = refl
   send-all-worked x (r ∷ l) = send-all-worked (run-send x s r value hops) l
 
-  pub send-all-state : (x : Run) (l : List ℕ) → run-send-all x s l value hops .state ≡ x .state
-  unfolding run-send-all run-send
-  send-all-state x [] = refl
-  send-all-state x (r ∷ l) = send-all-state (run-send x s r value hops) l
-
   pub send-all-sn-other : (x : Run) (l : List ℕ) (a : ℕ) → a ≢ s → run-send-all x s l value hops .sn a ≡ x .sn a
   unfolding run-send-all
   send-all-sn-other x [] a h = refl
