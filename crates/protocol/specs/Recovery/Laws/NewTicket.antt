@@ -15,8 +15,8 @@ use Rattle.protocol.specs.Tickets.{has-tn, highest, first-free, lowest-h
 use Rattle.protocol.specs.Restart.{below-hole, target-of}
 
 -- some entry of the table has TN t; none has
-abbrev pub Entered : List Entry → ℕ → Type 0
-Entered l t = (e : Entry) × (e ∈ l) × (e .tn ≡ t)
+abbrev pub HasTn : List Entry → ℕ → Type 0
+HasTn l t = (e : Entry) × (e ∈ l) × (e .tn ≡ t)
 
 abbrev pub NotEntered : List Entry → ℕ → Type 0
 NotEntered l t = (e : Entry) → e ∈ l → e .tn ≢ t
@@ -37,9 +37,9 @@ pub record Free (k t : ℕ) (l : List Entry) (u : ℕ) : Type 0 where
   pub from : t ≤ u
   pub below : u < t + k
   pub free : NotEntered l u
-  pub taken : (v : ℕ) → t ≤ v → v < u → Entered l v
+  pub taken : (v : ℕ) → t ≤ v → v < u → HasTn l v
 
-tn-entered : (t : ℕ) (l : List Entry) → anyb (has-tn t) l ≡ true → Entered l t
+tn-entered : (t : ℕ) (l : List Entry) → anyb (has-tn t) l ≡ true → HasTn l t
 unfolding has-tn
 tn-entered t l e = let (x, i, p) = anyb-true (has-tn t) l e in (x, i, eqb-true _ _ p)
 
@@ -61,7 +61,7 @@ first-free-some (suc k) t l {u} e = either (anyb (has-tn t) l)
       from = let a = r .from in omega arith;
       below = let a = r .below in omega arith;
       free = r .free;
-      taken = λ v a b. from-first (Entered l) t (tn-entered t l f) v a (λ c. r .taken v c b);
+      taken = λ v a b. from-first (HasTn l) t (tn-entered t l f) v a (λ c. r .taken v c b);
     })
     (λ f.
     let q : t ≡ u = cc (rw f at e) in
@@ -72,11 +72,11 @@ first-free-some (suc k) t l {u} e = either (anyb (has-tn t) l)
       taken = λ v a b. absurd (omega arith);
     })
 
-pub first-free-none : (k t : ℕ) (l : List Entry) → first-free k t l ≡ none → (v : ℕ) → t ≤ v → v < t + k → Entered l v
+pub first-free-none : (k t : ℕ) (l : List Entry) → first-free k t l ≡ none → (v : ℕ) → t ≤ v → v < t + k → HasTn l v
 unfolding first-free
 first-free-none zero t l e v a b = absurd (omega arith)
 first-free-none (suc k) t l e v a b = either (anyb (has-tn t) l)
-    (λ f. from-first (Entered l) t (tn-entered t l f) v a (λ c. first-free-none k (suc t) l (rw f at e) v c (omega arith)))
+    (λ f. from-first (HasTn l) t (tn-entered t l f) v a (λ c. first-free-none k (suc t) l (rw f at e) v c (omega arith)))
     (λ f. absurd (let g = rw f at e in let z : _≡_ {A = ℕ} 0 1 = cc in omega arith))
 
 -- ---- the lowest hole
@@ -84,7 +84,7 @@ pub record Hole (h top : ℕ) (l : List Entry) (u : ℕ) : Type 0 where
   pub above : h < u
   pub below : u < top
   pub free : NotEntered l u
-  pub taken : (v : ℕ) → h < v → v < u → Entered l v
+  pub taken : (v : ℕ) → h < v → v < u → HasTn l v
 
 pub hole-some : (h top : ℕ) (l : List Entry) {u : ℕ} → lowest-hole h top l ≡ some u → Hole h top l u
 unfolding lowest-hole
@@ -97,7 +97,7 @@ hole-some h top l e =
       taken = λ v a b. r .taken v (omega arith) b;
     }
 
-pub hole-none : (h top : ℕ) (l : List Entry) → lowest-hole h top l ≡ none → (v : ℕ) → h < v → v < top → Entered l v
+pub hole-none : (h top : ℕ) (l : List Entry) → lowest-hole h top l ≡ none → (v : ℕ) → h < v → v < top → HasTn l v
 unfolding lowest-hole
 hole-none h top l e v a b = first-free-none (top - h - 1) (h + 1) l e v (omega arith) (omega arith)
 
@@ -129,7 +129,7 @@ module _ (m : Memory) where
       go (some t) e = let a = hole-some _ _ _ e .above in omega arith
 
   -- a table without holes up to v reaches v
-  pub target-reaches : (v : ℕ) → ((t : ℕ) → m .height < t → t ≤ v → Entered (m .table) t) → v ≤ target-of m
+  pub target-reaches : (v : ℕ) → ((t : ℕ) → m .height < t → t ≤ v → HasTn (m .table) t) → v ≤ target-of m
   unfolding target-of below-hole
   target-reaches v has = elim (lt? (m .height) v) [
     | inl a ↦ go a (lowest-hole (m .height) (m .highest-at-restart) (m .table)) refl
