@@ -3,7 +3,8 @@ use Rattle.lists.specs.Basics.{_≡_, refl, _∙_, List, [], Option, some, none
 use Rattle.lists.specs.Questions.{Question, Result, ok, refuse, put-all}
 use Rattle.arrays.specs.Front.{push}
 use Rattle.protocol.specs.{declared.Content.Content, declared.Packet.Packet, Parts.{Memory, wire-room}}
-use Rattle.packets.specs.Words.{fitted}
+use Rattle.words.specs.{Rows.without, Becomes.Becomes}
+use Rattle.packets.specs.Words.{fitted, packets}
 use Rattle.memory.specs.View.{memory-view}
 use Rattle.deliver.specs.{declared.arrive.Reply.Reply, declared.arrive.Reply.the-variants.{Nothing, Send}, declared.arrive.Arrived.Arrived}
 use Rattle.deliver.specs.Effect.{Effect, effect, effect-questions}
@@ -20,6 +21,12 @@ effect-of ws r = record { memory = memory-view ws; reply = reply-of r }
 unfoldable pub answered : List Packet → Packet → Reply → List Packet
 answered l p Nothing = l
 answered l p (Send c) = push wire-room l (fitted (record { sender = p .sender; receiver = p .receiver; sn = p .sn; content = c }))
+
+-- The packet at a place leaves the wire, and then the answer goes on it.
+pub record Answering (before after : List ℕ) (at : ℕ) (p : Packet) (r : Reply) : Type 0 where
+  pub left : List ℕ
+  pub off : Becomes packets before left (without at (packets before))
+  pub on : Becomes packets left after (answered (without at (packets before)) p r)
 
 -- refused by a number; 0 is no refusal
 unfoldable pub by-number : {S : Type 0} → ℕ → S → Result S

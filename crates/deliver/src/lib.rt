@@ -7,15 +7,13 @@ ghost use lib.ListN.{length};
 ghost use Rattle.lists.specs.Questions.{first-no};
 ghost use Rattle.protocol.specs.Packets.{note-of};
 ghost use Rattle.protocol.specs.Questions.{deliver-questions, on-wire};
-ghost use Rattle.words.specs.Rows.{without};
 ghost use Rattle.head.specs.Head.{HEAD, job-of, lost-of, status-of};
 ghost use Rattle.notelist.specs.Notes.{notes};
 ghost use Rattle.packets.specs.Fits.{Fits};
-ghost use Rattle.packets.specs.Words.{packets};
 ghost use Rattle.store.specs.Places.{NOTELIST, PACKETS, STORE};
 ghost use Rattle.store.specs.View.{view, tried, Framed};
 ghost use Rattle.deliver.specs.NoteEffect.{note-effect, note-questions};
-ghost use Rattle.deliver.specs.View.{answered, Asked};
+ghost use Rattle.deliver.specs.View.{Answering, Asked};
 ghost use Rattle.deliver.specs.Frame.{in-range, first-questions, delivered, Waits, chare-outcome, note-outcome};
 use arrive::Reply;
 use memory::MEMORY;
@@ -91,7 +89,7 @@ fn note(ws: &mut [u64], p: Packet, tn: u16) -> u8
 // The packet at a place leaves the wire, and an answer under its own name goes on it.
 fn answer(ws: &mut [u64], at: usize, p: Packet, r: Reply)
     requires { ⌜ length (now ws) ≡ PACKETS ⌝ }
-    ensures { λ _. ⌜ packets (now (ws .exit)) ≡ answered (without at (packets (now (ws .entry)))) p r ⌝ }
+    ensures { λ _. ⌜ Answering (now (ws .entry)) (now (ws .exit)) at p r ⌝ }
 {
     packets::leave(ws, at);
     if let Reply::Send(content) = r {

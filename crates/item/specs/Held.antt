@@ -1,16 +1,16 @@
 -- What a row of words holds, one thing a word: f says what a word means.
-use Rattle.lists.specs.Basics.{_≡_, ap, _∙_, Bool, false, List, [], _∷_, map, ℕ, _+_, _-_, _≤_, _<_, arith, add-one, length, getD, drop}
+use Rattle.lists.specs.Basics.{_≡_, _∙_, Bool, false, List, [], _∷_, map, ℕ, _+_, _-_, _≤_, _<_, arith, add-one, length, getD, drop}
 use Rattle.lists.specs.Basics.{length-map, List·getD-map, drop-of-length-le, drop-cons}
-use Rattle.lists.specs.Lists.{keep, anyb}
+use Rattle.lists.specs.Lists.{anyb}
 use Rattle.arrays.specs.{Front.push, Place.place}
-use Rattle.words.specs.{Rows.{row, row-length, row-at}, Mapped.map-push}
+use Rattle.words.specs.{Rows.{row, row-length, row-at}, Becomes.{Becomes, becomes-mapped}, Mapped.map-push}
 
 module _ {A : Type 0} (f : ℕ → A) (ws : List ℕ) where
   pub held-fit : length (map f (row ws)) ≤ length ws - 1
   held-fit = omega (arith, length-map (row ws) f, row-length ws)
 
-  pub held-push : (out : List ℕ) (y : A) (x : ℕ) → row out ≡ push (length ws - 1) (row ws) x → f x ≡ y → map f (row out) ≡ push (length ws - 1) (map f (row ws)) y
-  held-push out y x a b = ap (map f) a ∙ map-push f _ (row ws) x ∙ rw b
+  pub held-push : (out : List ℕ) (y : A) (x : ℕ) → Becomes row ws out (push (length ws - 1) (row ws) x) → f x ≡ y → Becomes (λ w. map f (row w)) ws out (push (length ws - 1) (map f (row ws)) y)
+  held-push out y x a b = becomes-mapped f a (map-push f _ (row ws) x ∙ rw b)
 
   -- a loop has passed i of them
   module _ (i : ℕ) where
@@ -23,11 +23,6 @@ module _ {A : Type 0} (f : ℕ → A) (ws : List ℕ) where
 
     pub held-end : length (row ws) ≤ i → drop i (map f (row ws)) ≡ []
     held-end h = drop-of-length-le (map f (row ws)) {i = i} (rw length-map h)
-
-  -- none to sift
-  pub held-none : (p : A → Bool) (g : A → A) → length (row ws) ≡ 0 → map f (row ws) ≡ map g (keep p (map f (row ws)))
-  unfolding keep
-  held-none p g e = rw (held-end 0 (omega arith))
 
 -- no word means what passes
 pub held-never : {A : Type 0} (f : ℕ → A) (q : A → Bool) → ((w : ℕ) → q (f w) ≡ false) → (l : List ℕ) → length (map f l) ≤ place q (map f l)

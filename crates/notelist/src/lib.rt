@@ -5,6 +5,7 @@ ghost use Prim.Native.Nat.{_-_};
 ghost use lib.ListN.{length, getD};
 ghost use Rattle.arrays.specs.Front.{push as pushed};
 ghost use Rattle.protocol.specs.Packets.{has-note};
+ghost use Rattle.words.specs.Becomes.{Becomes};
 ghost use Rattle.notelist.specs.Notes.{note-of, fitted, notes};
 use item::Item;
 use item::KIND;
@@ -79,17 +80,16 @@ pub fn has(ws: &[u64], x: Note) -> bool
 
 // One more at the end; a full list stays.
 pub fn push(ws: &mut [u64], x: Note)
-    ensures { λ _. ⌜ notes (now (ws .exit)) ≡ pushed (length (now (ws .entry)) - 1) (notes (now (ws .entry))) (fitted x) ⌝ }
+    ensures { λ _. ⌜ Becomes notes (now (ws .entry)) (now (ws .exit)) (pushed (length (now (ws .entry)) - 1) (notes (now (ws .entry))) (fitted x)) ⌝ }
 {
     words::push(ws, pack(x));
 }
 
-// No note any more: the count becomes 0. A slice without words stays.
+// No note any more: the count becomes 0.
 pub fn empty(ws: &mut [u64])
-    ensures { λ _. ⌜ notes (now (ws .exit)) ≡ [] ⌝ }
+    ensures { λ _. ⌜ Becomes notes (now (ws .entry)) (now (ws .exit)) [] ⌝ }
 {
-    if ws.len() == 0 {
-        return;
+    if 0 < words::count(ws) {
+        ws[0] = 0;
     }
-    ws[0] = 0;
 }

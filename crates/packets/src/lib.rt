@@ -11,6 +11,7 @@ ghost use Rattle.arrays.specs.Front.{push};
 ghost use Rattle.protocol.specs.Packets.{is-named, kind, goes-to};
 ghost use Rattle.protocol.specs.Crash.{survives};
 ghost use Rattle.words.specs.Rows.{without};
+ghost use Rattle.words.specs.Becomes.{Becomes};
 ghost use Rattle.head.specs.Head.{HEAD, job-of};
 ghost use Rattle.packets.specs.Words.{content-of, unpacked, fitted, packets};
 ghost use Rattle.packets.specs.Packing.{bare, Packs};
@@ -167,14 +168,14 @@ pub fn find(ws: &[u64], k: u8, sender: u8, receiver: u8, sn: u16) -> Found
 
 // One more at the end; a full wire stays.
 pub fn join(ws: &mut [u64], p: Packet)
-    ensures { λ _. ⌜ packets (now (ws .exit)) ≡ push (length (now (ws .entry)) - 1) (packets (now (ws .entry))) (fitted p) ⌝ }
+    ensures { λ _. ⌜ Becomes packets (now (ws .entry)) (now (ws .exit)) (push (length (now (ws .entry)) - 1) (packets (now (ws .entry))) (fitted p)) ⌝ }
 {
     words::push(ws, pack(p));
 }
 
 // Takes the packet at a place off.
 pub fn leave(ws: &mut [u64], at: usize)
-    ensures { λ _. ⌜ packets (now (ws .exit)) ≡ without at (packets (now (ws .entry))) ⌝ }
+    ensures { λ _. ⌜ Becomes packets (now (ws .entry)) (now (ws .exit)) (without at (packets (now (ws .entry)))) ⌝ }
 {
     words::remove(ws, at);
 }
@@ -204,12 +205,9 @@ fn stays(crash: bool, h: &[u64], p: u8, w: u64) -> bool
 // Those that stay move down, in their order.
 fn sift(crash: bool, ws: &mut [u64], h: &[u64], p: u8)
     requires { ⌜ HEAD ≤ length (now h) ⌝ }
-    ensures { λ _. ⌜ packets (now (ws .exit)) ≡ keep (stays crash (job-of (now (h .entry))) p) (packets (now (ws .entry))) ⌝ }
+    ensures { λ _. ⌜ Becomes packets (now (ws .entry)) (now (ws .exit)) (keep (stays crash (job-of (now (h .entry))) p) (packets (now (ws .entry)))) ⌝ }
 {
     let n = words::count(ws);
-    if n == 0 {
-        return;
-    }
     let mut i = 0;
     let mut m = 0;
     while i < n {
@@ -220,13 +218,15 @@ fn sift(crash: bool, ws: &mut [u64], h: &[u64], p: u8)
             m += 1;
         }
     }
-    ws[0] = m as u64;
+    if m < n {
+        ws[0] = m as u64;
+    }
 }
 
 // Gone at a crash of machine p: all to p, and the GRANTs and NOTEs that its chares gave. h is a head.
 pub fn after_crash(ws: &mut [u64], h: &[u64], p: u8)
     requires { ⌜ HEAD ≤ length (now h) ⌝ }
-    ensures { λ _. ⌜ packets (now (ws .exit)) ≡ keep (survives (job-of (now (h .entry))) p) (packets (now (ws .entry))) ⌝ }
+    ensures { λ _. ⌜ Becomes packets (now (ws .entry)) (now (ws .exit)) (keep (survives (job-of (now (h .entry))) p) (packets (now (ws .entry)))) ⌝ }
 {
     sift(true, ws, h, p);
 }
@@ -234,7 +234,7 @@ pub fn after_crash(ws: &mut [u64], h: &[u64], p: u8)
 // Gone at a restart of machine p: all to p.
 pub fn after_restart(ws: &mut [u64], h: &[u64], p: u8)
     requires { ⌜ HEAD ≤ length (now h) ⌝ }
-    ensures { λ _. ⌜ packets (now (ws .exit)) ≡ keep (λ x. not (eqb (goes-to (job-of (now (h .entry))) x) p)) (packets (now (ws .entry))) ⌝ }
+    ensures { λ _. ⌜ Becomes packets (now (ws .entry)) (now (ws .exit)) (keep (λ x. not (eqb (goes-to (job-of (now (h .entry))) x) p)) (packets (now (ws .entry)))) ⌝ }
 {
     sift(false, ws, h, p);
 }

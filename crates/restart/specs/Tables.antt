@@ -14,7 +14,7 @@ unfolding more one limit held
 entering-one ws out s n tn r size small e =
     let room : length ws - 1 ≡ 16 = omega arith in
     let fits = rw (room, mod-eq-of-lt small) at (e .fits) in
-    rw (e .table, mod-eq-of-lt small, ← fits) (either r (λ q. rw q) (λ q. rw q))
+    rw (e .table .items, mod-eq-of-lt small, ← fits) (either r (λ q. rw q) (λ q. rw q))
 
 enter-grows : (l : List Entry) (e : Entry) → length l ≤ length (enter l e)
 unfolding enter

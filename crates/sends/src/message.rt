@@ -3,6 +3,7 @@ ghost use mathlib.Core.Path.{_≡_};
 ghost use Prim.Native.Nat.{_<_};
 ghost use lib.ListN.{length};
 ghost use Rattle.protocol.specs.Sending.{about};
+ghost use Rattle.words.specs.Becomes.{Becomes};
 ghost use Rattle.packets.specs.Words.{packets};
 ghost use Rattle.memory.specs.Places.{MEMORY};
 ghost use Rattle.memory.specs.View.{memory-view};
@@ -58,7 +59,7 @@ fn about(m: Message, content: Content) -> Packet
 pub fn put(ws: &mut [u64], m: Message, k: Ticket)
     requires { ⌜ length (now ws) ≡ PACKETS ⌝ }
     requires { ⌜ (m .sender < 13) × (m .receiver < 13) ⌝ }
-    ensures { λ _. ⌜ packets (now (ws .exit)) ≡ to-wire (packets (now (ws .entry))) m k ⌝ }
+    ensures { λ _. ⌜ Becomes packets (now (ws .entry)) (now (ws .exit)) (to-wire (packets (now (ws .entry))) m k) ⌝ }
 {
     match k {
         Ticket::Remote => packets::join(ws, about(m, Content::Ask)),

@@ -2,7 +2,7 @@
 use Rattle.lists.specs.Basics.{_≡_, refl, sym, _∙_, true, false, List, [], _∷_, _++_, ℕ, _+_, _-_, _%_, _<_, _≤_, arith, mod-eq-of-lt, le-leb, lt-leb, length, length-append}
 use Rattle.arrays.specs.{Front.{push, push-fits}, Place.{place, any-there, none-there}}
 use Rattle.protocol.specs.{Tickets.{for-message, unreceived}, Restart.enter}
-use Rattle.words.specs.{Rows.{row, named}, Mapped.place-map}
+use Rattle.words.specs.{Rows.{row, named}, Becomes.{Becomes, becomes-same, becomes-as}, Mapped.place-map}
 use Rattle.tickets.specs.{Table.{entry-of, entries, Entering}, EntryLaws.by-name, Fits.{count-is, entries-fit}}
 
 -- the place of a sender and an SN in hand
@@ -23,16 +23,16 @@ module _ (s n : ℕ) (hn : n < 65536) (ws : List ℕ) (i : ℕ) (e : i ≡ place
     fresh h = rw (none-there (for-message s n) (entries ws) (omega (arith, here, count-is ws)))
 
     pub enter-double : i < length (row ws) → Entering ws s n tn ws true
-    enter-double h = record { fits = rw (double h) (sym (le-leb _ _ (entries-fit ws))); table = sym (double h) }
+    enter-double h = record { fits = rw (double h) (sym (le-leb _ _ (entries-fit ws))); table = becomes-same entries ws (sym (double h)) }
 
     more : length (row ws) ≤ i → length (enter (entries ws) (unreceived s n tn)) ≡ length (row ws) + 1
     more h = rw (fresh h, length-append) (omega (arith, count-is ws))
 
     pub enter-full : length (row ws) ≤ i → length ws ≤ length (row ws) + 1 → Entering ws s n tn ws false
-    enter-full h g = record { fits = rw (more h) (sym (lt-leb (length (row ws) + 1) (length ws - 1) (omega arith))); table = refl }
+    enter-full h g = record { fits = rw (more h) (sym (lt-leb (length (row ws) + 1) (length ws - 1) (omega arith))); table = becomes-same entries ws refl }
 
-    pub enter-room : (out : List ℕ) → length (row ws) ≤ i → length (row ws) + 1 < length ws → s < 16 → entries out ≡ push (length ws - 1) (entries ws) (unreceived (s % 16) n tn) → Entering ws s n tn out true
+    pub enter-room : (out : List ℕ) → length (row ws) ≤ i → length (row ws) + 1 < length ws → s < 16 → Becomes entries ws out (push (length ws - 1) (entries ws) (unreceived (s % 16) n tn)) → Entering ws s n tn out true
     enter-room out h g small a = record {
       fits = rw (more h) (sym (le-leb (length (row ws) + 1) (length ws - 1) (omega arith)));
-      table = a ∙ rw (mod-eq-of-lt small) (push-fits (length ws - 1) (entries ws) (unreceived s n tn) (omega (arith, count-is ws)) ∙ sym (fresh h));
+      table = becomes-as entries a (rw (mod-eq-of-lt small) (push-fits (length ws - 1) (entries ws) (unreceived s n tn) (omega (arith, count-is ws)) ∙ sym (fresh h)));
     }

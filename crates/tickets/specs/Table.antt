@@ -2,7 +2,7 @@
 use Rattle.lists.specs.Basics.{_≡_, Bool, cond, List, map, Option, some, none, ℕ, _-_, _/_, _%_, eqb, leb, length}
 use Rattle.protocol.specs.{declared.Entry.Entry, Tickets.unreceived, Restart.enter}
 use Rattle.item.specs.{declared.Item.Item, Item.item-of}
-use Rattle.words.specs.Rows.{row}
+use Rattle.words.specs.{Rows.row, Becomes.Becomes}
 use Rattle.tickets.specs.{declared.FoundEntry.FoundEntry, declared.FoundEntry.the-variants.{Nothing as NoEntry, At as EntryAt}, declared.FoundHole.FoundHole}
 use Rattle.tickets.specs.{declared.FoundHole.the-variants.{Nothing as NoHole, At as HoleAt}}
 
@@ -30,4 +30,4 @@ found-hole (HoleAt t) = some t
 -- a ticket is entered where the table has room for what it then holds; else the table stays
 pub record Entering (before : List ℕ) (s n tn : ℕ) (after : List ℕ) (r : Bool) : Type 0 where
   pub fits : r ≡ leb (length (enter (entries before) (unreceived s n tn))) (length before - 1)
-  pub table : entries after ≡ cond r (enter (entries before) (unreceived s n tn)) (entries before)
+  pub table : Becomes entries before after (cond r (enter (entries before) (unreceived s n tn)) (entries before))

@@ -8,6 +8,7 @@ ghost use Rattle.arrays.specs.Front.{push as pushed};
 ghost use Rattle.protocol.specs.Tickets.{for-message, entry, filled, mark-noted, unreceived, has-tn, highest as highest-of, lowest-hole, next-tn};
 ghost use Rattle.protocol.specs.Checkpoint.{above-height};
 ghost use Rattle.protocol.specs.Restart.{below-hole};
+ghost use Rattle.words.specs.Becomes.{Becomes};
 ghost use Rattle.tickets.specs.Table.{entry-of, fitted, entries, found-entry, found-hole, Entering};
 use item::Item;
 use protocol::Entry;
@@ -95,14 +96,14 @@ pub fn find_tn(ws: &[u64], tn: u16) -> FoundEntry
 
 // One more entry at the end; a full table stays.
 pub fn push(ws: &mut [u64], e: Entry)
-    ensures { λ _. ⌜ entries (now (ws .exit)) ≡ pushed (length (now (ws .entry)) - 1) (entries (now (ws .entry))) (fitted e) ⌝ }
+    ensures { λ _. ⌜ Becomes entries (now (ws .entry)) (now (ws .exit)) (pushed (length (now (ws .entry)) - 1) (entries (now (ws .entry))) (fitted e)) ⌝ }
 {
     words::push(ws, pack(e));
 }
 
 // A ticket, not received and noted from the start, at the end; a full table stays.
 pub fn enter(ws: &mut [u64], sender: u8, sn: u16, tn: u16)
-    ensures { λ _. ⌜ entries (now (ws .exit)) ≡ pushed (length (now (ws .entry)) - 1) (entries (now (ws .entry))) (unreceived (sender % 16) sn tn) ⌝ }
+    ensures { λ _. ⌜ Becomes entries (now (ws .entry)) (now (ws .exit)) (pushed (length (now (ws .entry)) - 1) (entries (now (ws .entry))) (unreceived (sender % 16) sn tn)) ⌝ }
 {
     let e = Entry {
         sender,
@@ -134,7 +135,7 @@ pub fn enter_once(ws: &mut [u64], sender: u8, sn: u16, tn: u16) -> bool
 
 // The first entry for a sender and an SN becomes received, with the message's value and hops.
 pub fn fill(ws: &mut [u64], sender: u8, sn: u16, value: u16, hops: u8)
-    ensures { λ _. ⌜ entries (now (ws .exit)) ≡ filled sender sn value (hops % 8) (entries (now (ws .entry))) ⌝ }
+    ensures { λ _. ⌜ Becomes entries (now (ws .entry)) (now (ws .exit)) (filled sender sn value (hops % 8) (entries (now (ws .entry)))) ⌝ }
 {
     let i = words::seek(ws, sender, sn);
     if i < words::count(ws) {
@@ -170,7 +171,7 @@ fn noted(w: u64) -> u64
 
 // The first entry for a sender and an SN becomes noted.
 pub fn note(ws: &mut [u64], sender: u8, sn: u16)
-    ensures { λ _. ⌜ entries (now (ws .exit)) ≡ change1 (for-message sender sn) mark-noted (entries (now (ws .entry))) ⌝ }
+    ensures { λ _. ⌜ Becomes entries (now (ws .entry)) (now (ws .exit)) (change1 (for-message sender sn) mark-noted (entries (now (ws .entry)))) ⌝ }
 {
     let i = words::seek(ws, sender, sn);
     if i < words::count(ws) {
@@ -181,12 +182,9 @@ pub fn note(ws: &mut [u64], sender: u8, sn: u16)
 
 // The entries above a height, all noted.
 pub fn prune(ws: &mut [u64], height: u16)
-    ensures { λ _. ⌜ entries (now (ws .exit)) ≡ map mark-noted (keep (above-height height) (entries (now (ws .entry)))) ⌝ }
+    ensures { λ _. ⌜ Becomes entries (now (ws .entry)) (now (ws .exit)) (map mark-noted (keep (above-height height) (entries (now (ws .entry))))) ⌝ }
 {
     let n = words::count(ws);
-    if n == 0 {
-        return;
-    }
     let mut i = 0;
     let mut k = 0;
     while i < n {
@@ -197,7 +195,9 @@ pub fn prune(ws: &mut [u64], height: u16)
             k += 1;
         }
     }
-    ws[0] = k as u64;
+    if k < n {
+        ws[0] = k as u64;
+    }
 }
 
 // The largest of the height and the TNs.

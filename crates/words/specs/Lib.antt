@@ -3,6 +3,7 @@ pub mod Part
 pub mod PartSet
 pub mod Slots
 pub mod Rows
+pub mod Becomes
 pub mod Mapped
 pub mod Fields
 pub mod Copy

@@ -22,12 +22,6 @@ OWNER = 16 * PEER
 unfoldable pub named : ℕ → ℕ → ℕ → Bool
 named peer sn w = eqb (w % OWNER) (sn + PEER * peer)
 
--- A row becomes l, and every word is said: the items, the count word (as it was where the number of items stays), the words behind.
-pub record Becomes (before after l : List ℕ) : Type 0 where
-  pub items : row after ≡ l
-  pub count : getD after 0 0 ≡ cond (eqb (length l) (length (row before))) (getD before 0 0) (length l)
-  pub behind : drop (length l + 1) after ≡ drop (length l + 1) before
-
 module _ {A : Type 0} where
   -- the one after the gap moves down into it
   without-move : (l : List A) (j : ℕ) (d : A) → j + 1 < length l → without (j + 1) (set l j (getD l (j + 1) d)) ≡ without j l
@@ -40,7 +34,7 @@ module _ {A : Type 0} where
       go (x ∷ y ∷ l) zero h = refl
       go (x ∷ y ∷ l) (suc j) h = ap (x ∷_) (go (y ∷ l) j (omega arith))
 
-  without-last : (l : List A) (j : ℕ) → length l ≤ j + 1 → without j l ≡ take j l
+  pub without-last : (l : List A) (j : ℕ) → length l ≤ j + 1 → without j l ≡ take j l
   unfolding without
   without-last l j h = rw (drop-of-length-le l {i = suc j} (omega arith)) (append-nil (take j l))
 
@@ -115,39 +109,3 @@ module _ (ws : List ℕ) where
       let f : getD (set ws 0 j) 0 0 ≡ j = getD-set-same ws 0 j 0 s in
       let g : min j (length ws - 1) ≡ j = omega arith in
       rw (f, length-set, g, drop-set-lt 1 ws 0 j (omega arith)) (sym (take-take j (min (getD ws 0 0) (length ws - 1)) (drop 1 ws) (omega arith)))
-
-  -- ---- what the functions leave, word by word
-  pub becomes-same : {l : List ℕ} → row ws ≡ l → Becomes ws ws l
-  becomes-same e = record { items = e; count = rw (← e, eq-eqb (length (row ws)) (length (row ws)) refl); behind = refl }
-
-  pub becomes-set : (i x : ℕ) → i < length (row ws) → Becomes ws (set ws (i + 1) x) (set (row ws) i x)
-  becomes-set i x h = record {
-    items = row-set i x h;
-    count = rw (length-set, eq-eqb (length (row ws)) (length (row ws)) refl) (getD-set-other ws (i + 1) 0 x 0 (λ q. omega arith));
-    behind = rw length-set (drop-set-lt (length (row ws) + 1) ws (i + 1) x (omega arith));
-  }
-
-  pub becomes-push : (n x : ℕ) → n ≡ length (row ws) → n + 1 < length ws → Becomes ws (set (set ws (n + 1) x) 0 (n + 1)) (push (length ws - 1) (row ws) x)
-  becomes-push n x q h =
-      let k : length (push (length ws - 1) (row ws) x) ≡ n + 1 = rw (push-fits (length ws - 1) (row ws) x (omega arith), length-append) (omega arith) in
-      record {
-        items = row-push n x q h;
-        count = rw (k, ne-eqb (n + 1) (length (row ws)) (λ e. omega arith)) (getD-set-same (set ws (n + 1) x) 0 (n + 1) 0 (simp length-set (omega arith)));
-        behind = rw k (drop-set-lt (n + 1 + 1) (set ws (n + 1) x) 0 (n + 1) (omega arith) ∙ drop-set-lt (n + 1 + 1) ws (n + 1) x (omega arith));
-      }
-
-  -- the last of n has gone; old is the row that the gap was moved through
-  pub becomes-less : (j n : ℕ) (old l : List ℕ) → length (row ws) ≡ n → drop n ws ≡ drop n old → without j (row ws) ≡ l → n ≡ length (row old) → n ≡ j + 1 → Becomes old (set ws 0 j) l
-  becomes-less j n old l q rest e same last =
-      let cut = row-cut j (omega (arith, row-length)) (omega arith) in
-      let i : row (set ws 0 j) ≡ l = cut ∙ sym (without-last (row ws) j (omega arith)) ∙ e in
-      let k : length l ≡ j = rw (← i, cut, length-take) (omega arith) in
-      record {
-        items = i;
-        count = rw (k, ne-eqb j (length (row old)) (λ e. omega arith)) (getD-set-same ws 0 j 0 (omega (arith, row-length)));
-        behind = rw (k, ← last) (drop-set-lt n ws 0 j (omega arith) ∙ rest);
-      }
-
-  -- a word within is written: those behind stay
-  pub behind-kept : (n i x : ℕ) (old : List ℕ) → length (row ws) ≡ n → i < length (row ws) → drop n ws ≡ drop n old → drop n (set ws i x) ≡ drop n old
-  behind-kept n i x old q h e = drop-set-lt n ws i x (omega arith) ∙ e

@@ -7,7 +7,8 @@ ghost use Rattle.arrays.specs.Front.{push as pushed};
 ghost use Rattle.arrays.specs.Place.{place};
 ghost use Rattle.words.specs.Part.{part, put};
 ghost use Rattle.words.specs.Copy.{Apart};
-ghost use Rattle.words.specs.Rows.{row, named, without, Becomes};
+ghost use Rattle.words.specs.Rows.{row, named, without};
+ghost use Rattle.words.specs.Becomes.{Becomes};
 
 // An item's lowest fields are an SN and its peer, 16 values each to be told apart by the next place value, its owner's.
 pub const PEER: u64 = 65536;
@@ -57,7 +58,7 @@ pub fn seek(ws: &[u64], peer: u8, sn: u16) -> usize
 
 // The item at i anew; past the last nothing changes.
 pub fn write(ws: &mut [u64], i: usize, x: u64)
-    ensures { λ _. ⌜ Becomes (now (ws .entry)) (now (ws .exit)) (set (row (now (ws .entry))) i x) ⌝ }
+    ensures { λ _. ⌜ Becomes row (now (ws .entry)) (now (ws .exit)) (set (row (now (ws .entry))) i x) ⌝ }
 {
     if i < count(ws) {
         ws[i + 1] = x;
@@ -66,7 +67,7 @@ pub fn write(ws: &mut [u64], i: usize, x: u64)
 
 // One more at the end; a full row stays.
 pub fn push(ws: &mut [u64], x: u64)
-    ensures { λ _. ⌜ Becomes (now (ws .entry)) (now (ws .exit)) (pushed (length (now (ws .entry)) - 1) (row (now (ws .entry))) x) ⌝ }
+    ensures { λ _. ⌜ Becomes row (now (ws .entry)) (now (ws .exit)) (pushed (length (now (ws .entry)) - 1) (row (now (ws .entry))) x) ⌝ }
 {
     let n = count(ws);
     if n + 1 < ws.len() {
@@ -77,7 +78,7 @@ pub fn push(ws: &mut [u64], x: u64)
 
 // Takes the item at a place out; those behind it move down. Past the last nothing changes.
 pub fn remove(ws: &mut [u64], at: usize)
-    ensures { λ _. ⌜ Becomes (now (ws .entry)) (now (ws .exit)) (without at (row (now (ws .entry)))) ⌝ }
+    ensures { λ _. ⌜ Becomes row (now (ws .entry)) (now (ws .exit)) (without at (row (now (ws .entry)))) ⌝ }
 {
     let n = count(ws);
     if n <= at {

@@ -21,7 +21,7 @@ returns c =
     let u = c .before .before in
     let st = u .before .before .before in
     let e : (NOTES + st .args .p * NOTELIST + NOTELIST) - (NOTES + st .args .p * NOTELIST) ≡ NOTELIST = omega arith in
-    rw e (held-put (st .args .s .now) (st .pre .0) (st .args .p) (st .pre .1) _ (u .empty .last .0) (omega arith) [] (u .empty .ensures))
+    rw e (held-put (st .args .s .now) (st .pre .0) (st .args .p) (st .pre .1) _ (u .empty .last .0) (omega arith) [] (u .empty .ensures .items))
 
 pub hold-spec : {M : Type 1} → statement M
 hold-spec =

@@ -23,7 +23,7 @@ loop-again c =
     let b = u .before .before .before in
     let l = b .before .before .before .loop in
     let e : (NOTES + l .n * NOTELIST + NOTELIST) - (NOTES + l .n * NOTELIST) ≡ NOTELIST = omega arith in
-    (omega arith, rw e (held-length (l .s) (l .inv .1) (l .n) (omega arith) _ (u .empty .last .0) (omega arith)), rw e (kept-hit _ _ (l .n) (l .s) (l .inv .2) _ (b .buddy .ensures .0) (u .before .before .if1 .taken) (l .inv .1) (omega arith) (u .empty .last .0) (omega arith) (u .empty .ensures)))
+    (omega arith, rw e (held-length (l .s) (l .inv .1) (l .n) (omega arith) _ (u .empty .last .0) (omega arith)), rw e (kept-hit _ _ (l .n) (l .s) (l .inv .2) _ (b .buddy .ensures .0) (u .before .before .if1 .taken) (l .inv .1) (omega arith) (u .empty .last .0) (omega arith) (u .empty .ensures .items)))
 
 loop-again-2 : tie.Need-loop-again-2 Inv-loop μ-loop
 loop-again-2 c =

@@ -1,5 +1,7 @@
 -- `answer`: off the wire, and the reply, if any, at its end.
 use Rattle.lists.specs.Basics.{_≡_, _∙_, _-_, arith, needs, length}
+use Rattle.words.specs.Becomes.{becomes-same, becomes-as}
+use Rattle.packets.specs.Words.{packets}
 use Rattle.deliver.specs.View.{answered}
 use Rattle.deliver.proofs.answer.Statement.{statement}
 use Rattle.deliver.proofs.answer.Tie as tie
@@ -26,14 +28,17 @@ returns c =
     let k = j .before .before .before in
     let l = k .before .before .before .before in
     let n : length (l .leave .last .0) - 1 ≡ 128 = omega arith in
-    rw (k .r .given .1) (j .join .ensures ∙ rw (n, l .leave .ensures))
+    let on = j .join .ensures in
+    rw (k .r .given .1) (record { left = l .leave .last .0; off = l .leave .ensures; on = becomes-as packets on (rw (n, l .leave .ensures .items)) })
 
 same-length-2 : tie.Need-same-length-2
 same-length-2 c = search needs
 
 returns-2 : tie.Need-returns-2
 unfolding answered
-returns-2 c = rw (c .enum-told .given .1) (c .before .before .before .before .leave .ensures)
+returns-2 c =
+    let off = c .before .before .before .before .leave .ensures in
+    rw (c .enum-told .given .1) (record { left = _; off = off; on = becomes-same packets _ (off .items) })
 
 pub answer-spec : {M : Type 1} → statement M
 answer-spec =

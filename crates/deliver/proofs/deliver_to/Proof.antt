@@ -28,7 +28,7 @@ returns-2 c =
     let a = st .args in
     let e = memory-length (a .c) in
     rw e (chare-done (a .s .now) (st .pre .0) (a .at) (a .p) (st .pre .1 .1) (a .c) (st .pre .1 .0)
-    (g .arrive .last .0) (omega arith) _ (rw e at (g .arrive .ensures)) (i .if1 .left) (w .answer .last .0) (omega arith) (rw e at (w .answer .ensures)))
+    (g .arrive .last .0) (omega arith) _ (rw e at (g .arrive .ensures)) (i .if1 .left) (w .answer .last .0) (omega arith) (rw e at (w .answer .ensures .on .items)))
 
 pub deliver-to-spec : {M : Type 1} → statement M
 deliver-to-spec =

@@ -9,7 +9,7 @@ returns : tie.Need-returns
 unfolding packets
 returns c =
     let p = c .before .before in
-    held-push unpacked (p .before .before .before .before .args .ws .now) _ _ _ (p .push .ensures .items) (p .before .pack .ensures)
+    held-push unpacked (p .before .before .before .before .args .ws .now) _ _ _ (p .push .ensures) (p .before .pack .ensures)
 
 pub join-spec : {M : Type 1} → statement M
 join-spec = tie.close (tie.spec (λ c κs. search needs) (λ c κs. search needs) (λ c. search needs) returns)

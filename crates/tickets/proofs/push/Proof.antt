@@ -8,7 +8,7 @@ returns : tie.Need-returns
 unfolding entries
 returns c =
     let p = c .before .before in
-    held-push entry-of (p .before .before .before .before .args .ws .now) _ _ _ (p .push .ensures .items) (p .before .pack .ensures)
+    held-push entry-of (p .before .before .before .before .args .ws .now) _ _ _ (p .push .ensures) (p .before .pack .ensures)
 
 pub push-spec : {M : Type 1} → statement M
 push-spec = tie.close (tie.spec (λ c κs. search needs) (λ c κs. search needs) (λ c. search needs) returns)

@@ -54,7 +54,7 @@ returns-2 c =
     let k = x .before .before in
     let st = k .before .before .before .before in
     let a = st .args in
-    ap quiet (log-changed (a .m .now) (t .set-ticket .last .0) (st .pre) (omega arith) (ticketed (a .receiver) (a .sn) (a .tn)) (t .set-ticket .ensures))
+    ap quiet (log-changed (a .m .now) (t .set-ticket .last .0) (st .pre) (omega arith) (ticketed (a .receiver) (a .sn) (a .tn)) (t .set-ticket .ensures .items))
     ∙ rw (log-part, ← k .lookup .ensures, x .enum-told .given .1)
 
 pub grant-received-spec : {M : Type 1} → statement M

@@ -36,7 +36,7 @@ returns-3 c =
     let st = c .before .before .before .before .before .before .before .before .before .before .before in
     let a = st .args in
     let j = c .before .before .join in
-    rw (c .before .before .before .before .before .before .before .before .o .given .1) (put-one (a .m) _ (a .wire .now) (st .pre) (omega arith) (j .last .0) (j .ensures))
+    rw (c .before .before .before .before .before .before .before .before .o .given .1) (put-one (a .m) _ (a .wire .now) (st .pre) (omega arith) (j .last .0) (j .ensures .items))
 
 pub put-spec : {M : Type 1} → statement M
 put-spec =

@@ -1,6 +1,7 @@
 use Rattle.lists.specs.Basics.{length, arith, _-_, _≡_, refl, _∙_, needs}
 use Rattle.sends.specs.{Ticket.wire-by, InMemory.about-fits}
-use Rattle.packets.specs.Words.{fit-content}
+use Rattle.words.specs.Becomes.{becomes-same, becomes-as}
+use Rattle.packets.specs.Words.{fit-content, packets}
 use Rattle.protocol.specs.declared.Content.the-variants.{Ask, Note}
 use Rattle.sends.proofs.message.put.Statement.{statement}
 use Rattle.sends.proofs.message.put.Tie as tie
@@ -40,10 +41,10 @@ returns c =
     let st = t .before .before .before in
     let a = st .args in
     let n : length (a .ws .now) - 1 ≡ 128 = omega (arith, st .pre .0) in
-    rw (t .enum-told .given .1) (j .join .ensures ∙ rw (n, j .before .about .ensures, about-fits (a .m) Ask (st .pre .1 .0) (st .pre .1 .1) (search needs) refl))
+    rw (t .enum-told .given .1) (becomes-as packets (j .join .ensures) (rw (n, j .before .about .ensures, about-fits (a .m) Ask (st .pre .1 .0) (st .pre .1 .1) (search needs) refl)))
 
 returns-2 : tie.Need-returns-2
-returns-2 c = unfold wire-by in rw (c .enum-told2 .given .1)
+returns-2 c = unfold wire-by in rw (c .enum-told2 .given .1) (becomes-same packets _ refl)
 
 same-length-2 : tie.Need-same-length-2
 same-length-2 c = search needs
@@ -56,10 +57,10 @@ returns-3 c =
     let st = t .before .before .before in
     let a = st .args in
     let n : length (a .ws .now) - 1 ≡ 128 = omega (arith, st .pre .0) in
-    rw (t .k .given .1) (j .join2 .ensures ∙ rw (n, j .before .about2 .ensures, about-fits (a .m) (Note _) (st .pre .1 .0) (st .pre .1 .1) (search needs) refl))
+    rw (t .k .given .1) (becomes-as packets (j .join2 .ensures) (rw (n, j .before .about2 .ensures, about-fits (a .m) (Note _) (st .pre .1 .0) (st .pre .1 .1) (search needs) refl)))
 
 returns-4 : tie.Need-returns-4
-returns-4 c = unfold wire-by in rw (c .enum-told3 .given .1)
+returns-4 c = unfold wire-by in rw (c .enum-told3 .given .1) (becomes-same packets _ refl)
 
 pub put-spec : {M : Type 1} → statement M
 put-spec =

@@ -51,7 +51,7 @@ returns-2 c =
     let f = c .before .before in
     let t = f .before .before in
     let a = t .before .before .before .args in
-    rw (t .enum-told2 .given .1) (ticket-found (a .y .now) (f .fill .last .0) (search needs) (omega arith) (a .m) _ (search needs) (f .fill .ensures))
+    rw (t .enum-told2 .given .1) (ticket-found (a .y .now) (f .fill .last .0) (search needs) (omega arith) (a .m) _ (search needs) (f .fill .ensures .items))
 
 same-length-2 : tie.Need-same-length-2
 same-length-2 c = search needs
@@ -62,7 +62,7 @@ returns-3 c =
     let t = f .before .before .before in
     let a = t .before .before .before .args in
     unfold local-entry in
-    rw (t .k .given .1) (ticket-new (a .y .now) (f .push .last .0) (search needs) (omega arith) (a .m) _ (search needs) (search needs) (f .push .ensures))
+    rw (t .k .given .1) (ticket-new (a .y .now) (f .push .last .0) (search needs) (omega arith) (a .m) _ (search needs) (search needs) (f .push .ensures .items))
 
 returns-4 : tie.Need-returns-4
 returns-4 c = unfold table-by in rw (c .enum-told3 .given .1)
