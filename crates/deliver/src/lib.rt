@@ -93,15 +93,13 @@ fn answer(ws: &mut [u64], at: usize, p: Packet, r: Reply)
 {
     packets::leave(ws, at);
     if let Reply::Send(content) = r {
-        packets::join(
-            ws,
-            Packet {
-                sender: p.sender,
-                receiver: p.receiver,
-                sn: p.sn,
-                content,
-            },
-        );
+        let back = Packet {
+            sender: p.sender,
+            receiver: p.receiver,
+            sn: p.sn,
+            content,
+        };
+        packets::join(ws, back);
     }
 }
 

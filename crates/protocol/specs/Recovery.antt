@@ -8,6 +8,7 @@ pub mod Conclusion
 pub mod Along
 pub mod LostFlag
 pub mod Holes
+pub mod Kept
 pub mod Numbers
 pub mod Theorem
 pub mod Witness

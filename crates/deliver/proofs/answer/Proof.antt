@@ -1,5 +1,5 @@
 -- `answer`: off the wire, and the reply, if any, at its end.
-use Rattle.lists.specs.Basics.{_≡_, _∙_, _-_, arith, needs, length}
+use Rattle.lists.specs.Basics.{_≡_, _-_, arith, needs, length}
 use Rattle.words.specs.Becomes.{becomes-same, becomes-as}
 use Rattle.packets.specs.Words.{packets}
 use Rattle.deliver.specs.View.{answered}

@@ -1,4 +1,5 @@
-use Rattle.lists.specs.Basics.{length, arith, _-_, _≡_, refl, _∙_, needs}
+-- `put`: a packet more at the end of the wire, or the wire as it was.
+use Rattle.lists.specs.Basics.{length, arith, _-_, _≡_, refl, needs}
 use Rattle.sends.specs.{Ticket.wire-by, InMemory.about-fits}
 use Rattle.words.specs.Becomes.{becomes-same, becomes-as}
 use Rattle.packets.specs.Words.{fit-content, packets}
