@@ -1,7 +1,7 @@
 -- What is left of a row, word by word. A view says what its words mean.
-use Rattle.lists.specs.Basics.{_≡_, refl, sym, ap, _∙_, cond, List, map, ℕ, _+_, _-_, _≤_, _<_, min, arith, eqb, eq-eqb, ne-eqb, length, take, drop, getD, set, length-set, length-map, length-append, length-take, drop-drop, drop-set-lt, getD-set-same, getD-set-other}
+use Rattle.lists.specs.Basics.{_≡_, refl, sym, ap, _∙_, cond, List, map, ℕ, _+_, _-_, _≤_, _<_, arith, eqb, eq-eqb, ne-eqb, length, take, drop, getD, set, length-set, length-map, length-append, length-take, drop-drop, drop-set-lt, getD-set-same, getD-set-other}
 use Rattle.arrays.specs.Front.{push, push-fits}
-use Rattle.words.specs.Rows.{row, row-length, row-set, row-push, row-cut}
+use Rattle.words.specs.Rows.{row, row-length, row-set, row-set-length, row-push, row-cut}
 
 -- A row becomes l, and every word is said: the items, the count word (as it was where the number of items stays), the words behind.
 pub record Becomes {A : Type 0} (view : List ℕ → List A) (before after : List ℕ) (l : List A) : Type 0 where
@@ -49,7 +49,7 @@ beside-all old ws b p q = record { items = refl; count = rw (eq-eqb (length (row
 
 pub beside-write : {n : ℕ} (i x : ℕ) (old ws : List ℕ) → Beside n old ws → n ≡ length (row old) → n ≡ length (row ws) → i < n → Becomes row old (set ws (i + 1) x) (row (set ws (i + 1) x))
 beside-write {n} i x old ws b p q h =
-    beside-all old (set ws (i + 1) x) (beside-set n n i x ws b (omega arith) h) p (rw (row-set ws i x (omega arith), length-set) q)
+    beside-all old (set ws (i + 1) x) (beside-set n n i x ws b (omega arith) h) p (q ∙ sym (row-set-length ws i x (omega arith)))
 
 pub becomes-beside : {old ws l : List ℕ} (n : ℕ) → Becomes row old ws l → length l ≡ n → n ≡ length (row old) → Beside n old ws
 becomes-beside {old} {ws} {l} n b e s = record { count = rw (eq-eqb (length l) (length (row old)) (e ∙ s)) at (b .count); behind = rw e at (b .behind) }

@@ -1,8 +1,8 @@
 -- A counted row of words: the count, then the items. A count above the room counts as the room.
-use Rattle.lists.specs.Basics.{_≡_, refl, sym, ap, _∙_, Bool, true, false, cond, List, [], _∷_, _++_, append-nil, ℕ, suc, zero, _+_, _-_, _*_, _%_, _≤_, _<_, min, arith, add-one, eqb}
+use Rattle.lists.specs.Basics.{_≡_, refl, sym, ap, _∙_, Bool, true, false, List, [], _∷_, _++_, append-nil, ℕ, suc, zero, _+_, _-_, _*_, _%_, _≤_, _<_, min, arith, add-one, eqb}
 use Rattle.lists.specs.Basics.{length, take, drop, getD, set, length-drop, length-set, drop-of-length-le, getD-drop, drop-set-add, drop-set-lt, getD-set-same, getD-set-other}
-use Rattle.lists.specs.Basics.{take-take, take-all, length-append, length-take, eq-eqb, ne-eqb}
-use Rattle.arrays.specs.{Front.{push, push-fits, front-length, front-at, put-at, push-room, no-room, front-beyond}, Place.{place, place-hit, place-miss, place-end}}
+use Rattle.lists.specs.Basics.{take-take, take-all}
+use Rattle.arrays.specs.{Front.{push, front-length, front-at, put-at, push-room, no-room, front-beyond}, Place.{place, place-hit, place-miss, place-end}}
 
 unfoldable pub row : List ℕ → List ℕ
 row ws = take (min (getD ws 0 0) (length ws - 1)) (drop 1 ws)
@@ -81,6 +81,9 @@ module _ (ws : List ℕ) where
       let e : i + 1 ≡ 1 + i = omega arith in
       let n : getD (set ws (1 + i) x) 0 0 ≡ getD ws 0 0 = getD-set-other ws (1 + i) 0 x 0 (λ q. omega arith) in
       rw (e, n, length-set, drop-set-add) (put-at (drop 1 ws) (length ws - 1) (getD ws 0 0) size i x (omega (arith, row-length)))
+
+  pub row-set-length : (i x : ℕ) → i < length (row ws) → length (row (set ws (i + 1) x)) ≡ length (row ws)
+  row-set-length i x h = ap length (row-set i x h) ∙ length-set (row ws) i x
 
   -- a word more; n words are there
   pub row-push : (n x : ℕ) → n ≡ length (row ws) → n + 1 < length ws → row (set (set ws (n + 1) x) 0 (n + 1)) ≡ push (length ws - 1) (row ws) x
