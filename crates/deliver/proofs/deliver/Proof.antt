@@ -22,35 +22,8 @@ told-of c = c .before .before
 by-kind : (c : tie.Joined2) → c .if2 .to ≡ cond (eqb (start-of (find-of (told-of c)) .args .kind) 2) (start-of (find-of (told-of c)) .args .sender) (start-of (find-of (told-of c)) .args .receiver)
 by-kind c = ⊎-elim (λ w. w .1 ∙ rw (eq-eqb _ 2 (w .0 .taken))) (λ w. w .1 ∙ rw (ne-eqb _ 2 (w .0 .left))) (c .if2 .came)
 
-judge-requires : tie.Need-judge-requires
-judge-requires c κs = search needs
-
-same-length : tie.Need-same-length
-same-length c = search needs
-
 returns : tie.Need-returns
 returns c = frame-refused _ _ _ _ _ _ (c .before .judge .ensures) (c .if1 .taken)
-
-sub-find : tie.Need-sub-find
-sub-find c = search needs
-
-part-find-start : tie.Need-part-find-start
-part-find-start c = search needs
-
-part-find-end : tie.Need-part-find-end
-part-find-end c = search needs
-
-find-requires : tie.Need-find-requires
-find-requires c κs = search needs
-
-enum-known-f : tie.Need-enum-known-f
-enum-known-f c = search needs
-
-enum-told : tie.Need-enum-told
-enum-told c = search needs
-
-same-length-2 : tie.Need-same-length-2
-same-length-2 c = search needs
 
 returns-2 : tie.Need-returns-2
 returns-2 c =
@@ -58,18 +31,12 @@ returns-2 c =
     let e = passed-of f in
     frame-missing _ _ _ _ _ _ (e .before .judge .ensures) (e .if1 .left) _ (f .find .ensures) (c .enum-told .given .1)
 
-enum-known-c : tie.Need-enum-known-c
-enum-known-c c = search needs
-
 deliver-note-requires : tie.Need-deliver-note-requires
 deliver-note-requires c κs =
     let k = c .before .before .before .before in
     let f = find-of k in
     let e = passed-of f in
     (start-of f .pre, waiting _ _ _ _ _ _ (e .before .judge .ensures) (e .if1 .left) _ (f .find .ensures) (k .before .f .given .1))
-
-same-length-3 : tie.Need-same-length-3
-same-length-3 c = search needs
 
 returns-3 : tie.Need-returns-3
 returns-3 c =
@@ -87,9 +54,6 @@ deliver-to-requires c κs =
     let e = passed-of f in
     (start-of f .pre, (rw (by-kind (c .before)) (place-fits _ _ _ _ _ _ (e .before .judge .ensures) (e .if1 .left)), waiting _ _ _ _ _ _ (e .before .judge .ensures) (e .if1 .left) _ (f .find .ensures) (k .before .f .given .1)))
 
-same-length-4 : tie.Need-same-length-4
-same-length-4 c = search needs
-
 returns-4 : tie.Need-returns-4
 returns-4 c =
     let d = c .before .before in
@@ -103,21 +67,21 @@ pub deliver-spec : {M : Type 1} → statement M
 deliver-spec =
     tie.close
     (tie.spec
-    judge-requires
-    same-length
+    (λ c κs. search needs)
+    (λ c. search needs)
     returns
-    sub-find
-    part-find-start
-    part-find-end
-    find-requires
-    enum-known-f
-    enum-told
-    same-length-2
+    (λ c. search needs)
+    (λ c. search needs)
+    (λ c. search needs)
+    (λ c κs. search needs)
+    (λ c. search needs)
+    (λ c. search needs)
+    (λ c. search needs)
     returns-2
-    enum-known-c
+    (λ c. search needs)
     deliver-note-requires
-    same-length-3
+    (λ c. search needs)
     returns-3
     deliver-to-requires
-    same-length-4
+    (λ c. search needs)
     returns-4)

@@ -4,48 +4,6 @@ use Rattle.packets.specs.{Words.{granted, carried, fit-content}, Packing
 use Rattle.packets.proofs.body.Statement.{statement}
 use Rattle.packets.proofs.body.Tie as tie
 
-enum-told : tie.Need-enum-told
-enum-told c = search needs
-
-made-requires : tie.Need-made-requires
-made-requires c κs = search needs
-
-enum-told-2 : tie.Need-enum-told-2
-enum-told-2 c = search needs
-
-made-requires-2 : tie.Need-made-requires-2
-made-requires-2 c κs = search needs
-
-enum-known-c : tie.Need-enum-known-c
-enum-known-c c = search needs
-
-made-requires-3 : tie.Need-made-requires-3
-made-requires-3 c κs = search needs
-
-enum-known-c-2 : tie.Need-enum-known-c-2
-enum-known-c-2 c = search needs
-
-made-requires-4 : tie.Need-made-requires-4
-made-requires-4 c κs = search needs
-
-enum-known-c-3 : tie.Need-enum-known-c-3
-enum-known-c-3 c = search needs
-
-made-requires-5 : tie.Need-made-requires-5
-made-requires-5 c κs = search needs
-
-enum-known-c-4 : tie.Need-enum-known-c-4
-enum-known-c-4 c = search needs
-
-made-requires-6 : tie.Need-made-requires-6
-made-requires-6 c κs = search needs
-
-enum-told-3 : tie.Need-enum-told-3
-enum-told-3 c = search needs
-
-made-requires-7 : tie.Need-made-requires-7
-made-requires-7 c κs = search needs
-
 returns : tie.Need-returns
 unfolding carried fit-content granted
 returns c = rw (c .before .enum-told .given .1) (packs _ 1 0 0 0 0 _ (c .made .ensures) refl)
@@ -78,20 +36,20 @@ pub body-spec : {M : Type 1} → statement M
 body-spec =
     tie.close
     (tie.spec
-    enum-told
-    made-requires
-    enum-told-2
-    made-requires-2
-    enum-known-c
-    made-requires-3
-    enum-known-c-2
-    made-requires-4
-    enum-known-c-3
-    made-requires-5
-    enum-known-c-4
-    made-requires-6
-    enum-told-3
-    made-requires-7
+    (λ c. search needs)
+    (λ c κs. search needs)
+    (λ c. search needs)
+    (λ c κs. search needs)
+    (λ c. search needs)
+    (λ c κs. search needs)
+    (λ c. search needs)
+    (λ c κs. search needs)
+    (λ c. search needs)
+    (λ c κs. search needs)
+    (λ c. search needs)
+    (λ c κs. search needs)
+    (λ c. search needs)
+    (λ c κs. search needs)
     returns
     returns-2
     returns-3

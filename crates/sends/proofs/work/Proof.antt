@@ -4,35 +4,11 @@ use Rattle.tickets.specs.Table.{found-entry}
 use Rattle.sends.proofs.work.Statement.{statement}
 use Rattle.sends.proofs.work.Tie as tie
 
-judge-chare-requires : tie.Need-judge-chare-requires
-judge-chare-requires c κs = search needs
-
-same-length : tie.Need-same-length
-same-length c = search needs
-
 returns : tie.Need-returns
 returns c =
     let j = c .before in
     let a = j .before .before .before .args in
     frame-refused (a .s .now) (a .chare) _ (j .judge-chare .ensures) (c .if1 .taken)
-
-mul-a : tie.Need-mul-a
-mul-a c = search needs
-
-add-a : tie.Need-add-a
-add-a c = search needs
-
-add-z : tie.Need-add-z
-add-z c = search needs
-
-mul-next-entry : tie.Need-mul-next-entry
-mul-next-entry c = search needs
-
-sub-next-entry : tie.Need-sub-next-entry
-sub-next-entry c = search needs
-
-part-next-entry-start : tie.Need-part-next-entry-start
-part-next-entry-start c = search needs
 
 part-next-entry-end : tie.Need-part-next-entry-end
 part-next-entry-end c =
@@ -41,15 +17,6 @@ part-next-entry-end c =
     let st = j .before .before .before in
     let h = index (st .args .s .now) (st .args .chare) _ (j .judge-chare .ensures) (i .if1 .left) in
     omega (arith, st .pre)
-
-next-entry-requires : tie.Need-next-entry-requires
-next-entry-requires c κs = search needs
-
-enum-told : tie.Need-enum-told
-enum-told c = search needs
-
-enum-known-e : tie.Need-enum-known-e
-enum-known-e c = search needs
 
 work-at-requires : tie.Need-work-at-requires
 unfolding found-entry
@@ -62,9 +29,6 @@ work-at-requires c κs =
     let f = next-fits _ _ (sym (n .next-entry .ensures) ∙ ap found-entry (x .e .given .1)) in
     (search needs, (index (a .s .now) (a .chare) _ (j .judge-chare .ensures) (i .if1 .left), f .0, f .1))
 
-same-length-2 : tie.Need-same-length-2
-same-length-2 c = search needs
-
 returns-2 : tie.Need-returns-2
 unfolding found-entry
 returns-2 c =
@@ -73,9 +37,6 @@ returns-2 c =
     let j = i .before in
     let a = j .before .before .before .args in
     nothing-next (a .s .now) (a .chare) _ (j .judge-chare .ensures) (i .if1 .left) (rw (span (a .chare)) at (sym (n .next-entry .ensures) ∙ ap found-entry (c .enum-told .given .1)))
-
-same-length-3 : tie.Need-same-length-3
-same-length-3 c = search needs
 
 returns-3 : tie.Need-returns-3
 unfolding found-entry
@@ -92,21 +53,21 @@ pub work-spec : {M : Type 1} → statement M
 work-spec =
     tie.close
     (tie.spec
-    judge-chare-requires
-    same-length
+    (λ c κs. search needs)
+    (λ c. search needs)
     returns
-    mul-a
-    add-a
-    add-z
-    mul-next-entry
-    sub-next-entry
-    part-next-entry-start
+    (λ c. search needs)
+    (λ c. search needs)
+    (λ c. search needs)
+    (λ c. search needs)
+    (λ c. search needs)
+    (λ c. search needs)
     part-next-entry-end
-    next-entry-requires
-    enum-told
-    enum-known-e
+    (λ c κs. search needs)
+    (λ c. search needs)
+    (λ c. search needs)
     work-at-requires
-    same-length-2
+    (λ c. search needs)
     returns-2
-    same-length-3
+    (λ c. search needs)
     returns-3)

@@ -4,27 +4,6 @@ use Rattle.tickets.specs.Table.{found-hole}
 use Rattle.tickets.proofs.next_tn.Statement.{statement}
 use Rattle.tickets.proofs.next_tn.Tie as tie
 
-lowest-hole-requires : tie.Need-lowest-hole-requires
-lowest-hole-requires c κs = search needs
-
-enum-known-n : tie.Need-enum-known-n
-enum-known-n c = search needs
-
-cast-result : tie.Need-cast-result
-cast-result c = search needs
-
-enum-told : tie.Need-enum-told
-enum-told c = search needs
-
-highest-requires : tie.Need-highest-requires
-highest-requires c κs = search needs
-
-cast-result-2 : tie.Need-cast-result-2
-cast-result-2 c = search needs
-
-add-result : tie.Need-add-result
-add-result c = search needs
-
 returns : tie.Need-returns
 unfolding found-hole next-tn hole-or
 returns c = rw (sym (sym (ap found-hole (c .before .n .given .1)) ∙ c .before .before .before .lowest-hole .ensures))
@@ -37,12 +16,12 @@ pub next-tn-spec : {M : Type 1} → statement M
 next-tn-spec =
     tie.close
     (tie.spec
-    lowest-hole-requires
-    enum-known-n
-    cast-result
-    enum-told
-    highest-requires
-    cast-result-2
-    add-result
+    (λ c κs. search needs)
+    (λ c. search needs)
+    (λ c. search needs)
+    (λ c. search needs)
+    (λ c κs. search needs)
+    (λ c. search needs)
+    (λ c. search needs)
     returns
     returns-2)

@@ -4,21 +4,9 @@ use Rattle.tickets.specs.{Table.found-hole, Holes.hole-above}
 use Rattle.tickets.proofs.target.Statement.{statement}
 use Rattle.tickets.proofs.target.Tie as tie
 
-lowest-hole-requires : tie.Need-lowest-hole-requires
-lowest-hole-requires c κs = search needs
-
-enum-known-n : tie.Need-enum-known-n
-enum-known-n c = search needs
-
 sub-result : tie.Need-sub-result
 unfolding found-hole
 sub-result c = omega (arith, hole-above _ _ _ (sym (ap found-hole (c .before .n .given .1)) ∙ c .before .before .before .lowest-hole .ensures))
-
-enum-told : tie.Need-enum-told
-enum-told c = search needs
-
-highest-requires : tie.Need-highest-requires
-highest-requires c κs = search needs
 
 returns : tie.Need-returns
 unfolding found-hole below-hole
@@ -32,10 +20,10 @@ pub target-spec : {M : Type 1} → statement M
 target-spec =
     tie.close
     (tie.spec
-    lowest-hole-requires
-    enum-known-n
+    (λ c κs. search needs)
+    (λ c. search needs)
     sub-result
-    enum-told
-    highest-requires
+    (λ c. search needs)
+    (λ c κs. search needs)
     returns
     returns-2)

@@ -48,30 +48,6 @@ tn-at c =
     let t = c .before .before .before in
     c .next-tn .ensures ∙ (λ i. next-tn (t .before .before .height .ensures i) (t .top .ensures i) (sym (table-part (start-of (worked-of c) .args .m .now)) i))
 
-sub-find : tie.Need-sub-find
-sub-find c = search needs
-
-part-find-start : tie.Need-part-find-start
-part-find-start c = search needs
-
-part-find-end : tie.Need-part-find-end
-part-find-end c = search needs
-
-find-requires : tie.Need-find-requires
-find-requires c κs = search needs
-
-enum-known-e : tie.Need-enum-known-e
-enum-known-e c = search needs
-
-grant-of-requires : tie.Need-grant-of-requires
-grant-of-requires c κs = search needs
-
-replied-requires : tie.Need-replied-requires
-replied-requires c κs = search needs
-
-same-length : tie.Need-same-length
-same-length c = search needs
-
 returns : tie.Need-returns
 unfolding effect-of reply-of found-entry ask-questions ask-effect put-all
 returns c =
@@ -81,53 +57,11 @@ returns c =
     let found = ap (λ l. entry l (a .sender) (a .sn)) (table-part (a .m .now)) ∙ sym (k .find .ensures) ∙ ap found-entry (f .e .given .1) in
     replying (a .m .now) _ _ _ (c .replied .ensures) (rw (c .before .grant-of .ensures, found))
 
-enum-told : tie.Need-enum-told
-enum-told c = search needs
-
-mark-requires : tie.Need-mark-requires
-mark-requires c κs = search needs
-
-window-requires : tie.Need-window-requires
-window-requires c κs = search needs
-
-worked-requires : tie.Need-worked-requires
-worked-requires c κs = search needs
-
-replied-requires-2 : tie.Need-replied-requires-2
-replied-requires-2 c κs = search needs
-
-same-length-2 : tie.Need-same-length-2
-same-length-2 c = search needs
-
 returns-2 : tie.Need-returns-2
 unfolding effect-of reply-of ask-questions ask-effect put-all
 returns-2 c =
     let w = c .before .before in
     replying (start-of w .args .m .now) _ _ _ (c .replied2 .ensures) (rw (no-entry w, sym (worked-at w) ∙ c .before .if1 .taken))
-
-height-requires : tie.Need-height-requires
-height-requires c κs = search needs
-
-top-requires : tie.Need-top-requires
-top-requires c κs = search needs
-
-sub-next-tn : tie.Need-sub-next-tn
-sub-next-tn c = search needs
-
-part-next-tn-start : tie.Need-part-next-tn-start
-part-next-tn-start c = search needs
-
-part-next-tn-end : tie.Need-part-next-tn-end
-part-next-tn-end c = search needs
-
-next-tn-requires : tie.Need-next-tn-requires
-next-tn-requires c κs = search needs
-
-refused-requires : tie.Need-refused-requires
-refused-requires c κs = search needs
-
-same-length-3 : tie.Need-same-length-3
-same-length-3 c = search needs
 
 returns-3 : tie.Need-returns-3
 unfolding put-all
@@ -136,15 +70,6 @@ returns-3 c =
     let w = worked-of t in
     refusing (start-of w .args .m .now) _ _ 7 (omega arith) (c .refused .ensures)
     (ask-new _ _ _ (tn-at t) refl (no-entry w) (not-worked (else-of t)) (lt-leb (t .next-tn .result) number-limit (omega arith)) refl refl) refl
-
-admitted-requires : tie.Need-admitted-requires
-admitted-requires c κs = search needs
-
-refused-requires-2 : tie.Need-refused-requires-2
-refused-requires-2 c κs = search needs
-
-same-length-4 : tie.Need-same-length-4
-same-length-4 c = search needs
 
 returns-4 : tie.Need-returns-4
 unfolding put-all
@@ -155,24 +80,6 @@ returns-4 c =
     refusing (start-of w .args .m .now) _ _ 8 (omega arith) (c .refused2 .ensures)
     (ask-new _ _ _ (tn-at t) (w .before .before .before .mark .ensures) (no-entry w) (not-worked (else-of t))
     (le-leb (t .next-tn .result) number-limit (omega arith)) (sym (d .admitted .ensures) ∙ not-true _ (c .before .if3 .taken)) refl) refl
-
-sub-count : tie.Need-sub-count
-sub-count c = search needs
-
-part-count-start : tie.Need-part-count-start
-part-count-start c = search needs
-
-part-count-end : tie.Need-part-count-end
-part-count-end c = search needs
-
-count-requires : tie.Need-count-requires
-count-requires c κs = search needs
-
-refused-requires-3 : tie.Need-refused-requires-3
-refused-requires-3 c κs = search needs
-
-same-length-5 : tie.Need-same-length-5
-same-length-5 c = search needs
 
 returns-5 : tie.Need-returns-5
 unfolding put-all
@@ -185,27 +92,6 @@ returns-5 c =
     refusing (a .m .now) _ _ 10 (omega arith) (c .refused3 .ensures)
     (ask-new _ _ _ (tn-at t) (w .before .before .before .mark .ensures) (no-entry w) (not-worked (else-of t))
     (le-leb (t .next-tn .result) number-limit (omega arith)) (sym (d .admitted .ensures) ∙ not-false _ (n .before .before .before .if3 .left)) (le-ltb (length (memory-view (a .m .now) .table)) table-room (rw table-part (omega (arith, n .count .ensures))))) refl
-
-cast-n : tie.Need-cast-n
-cast-n c = search needs
-
-sub-enter : tie.Need-sub-enter
-sub-enter c = search needs
-
-part-enter-start : tie.Need-part-enter-start
-part-enter-start c = search needs
-
-part-enter-end : tie.Need-part-enter-end
-part-enter-end c = search needs
-
-enter-requires : tie.Need-enter-requires
-enter-requires c κs = search needs
-
-replied-requires-3 : tie.Need-replied-requires-3
-replied-requires-3 c κs = search needs
-
-same-length-6 : tie.Need-same-length-6
-same-length-6 c = search needs
 
 returns-6 : tie.Need-returns-6
 unfolding effect-of reply-of put-all
@@ -230,47 +116,47 @@ pub ask-spec : {M : Type 1} → statement M
 ask-spec =
     tie.close
     (tie.spec
-    sub-find
-    part-find-start
-    part-find-end
-    find-requires
-    enum-known-e
-    grant-of-requires
-    replied-requires
-    same-length
+    (λ c. search needs)
+    (λ c. search needs)
+    (λ c. search needs)
+    (λ c κs. search needs)
+    (λ c. search needs)
+    (λ c κs. search needs)
+    (λ c κs. search needs)
+    (λ c. search needs)
     returns
-    enum-told
-    mark-requires
-    window-requires
-    worked-requires
-    replied-requires-2
-    same-length-2
+    (λ c. search needs)
+    (λ c κs. search needs)
+    (λ c κs. search needs)
+    (λ c κs. search needs)
+    (λ c κs. search needs)
+    (λ c. search needs)
     returns-2
-    height-requires
-    top-requires
-    sub-next-tn
-    part-next-tn-start
-    part-next-tn-end
-    next-tn-requires
-    refused-requires
-    same-length-3
+    (λ c κs. search needs)
+    (λ c κs. search needs)
+    (λ c. search needs)
+    (λ c. search needs)
+    (λ c. search needs)
+    (λ c κs. search needs)
+    (λ c κs. search needs)
+    (λ c. search needs)
     returns-3
-    admitted-requires
-    refused-requires-2
-    same-length-4
+    (λ c κs. search needs)
+    (λ c κs. search needs)
+    (λ c. search needs)
     returns-4
-    sub-count
-    part-count-start
-    part-count-end
-    count-requires
-    refused-requires-3
-    same-length-5
+    (λ c. search needs)
+    (λ c. search needs)
+    (λ c. search needs)
+    (λ c κs. search needs)
+    (λ c κs. search needs)
+    (λ c. search needs)
     returns-5
-    cast-n
-    sub-enter
-    part-enter-start
-    part-enter-end
-    enter-requires
-    replied-requires-3
-    same-length-6
+    (λ c. search needs)
+    (λ c. search needs)
+    (λ c. search needs)
+    (λ c. search needs)
+    (λ c κs. search needs)
+    (λ c κs. search needs)
+    (λ c. search needs)
     returns-6)

@@ -7,39 +7,6 @@ use Rattle.deliver.specs.{Effect.{quiet, data-effect}, View.{effect-of, 
 use Rattle.deliver.proofs.arrive.data_in.Statement.{statement}
 use Rattle.deliver.proofs.arrive.data_in.Tie as tie
 
-sub-find : tie.Need-sub-find
-sub-find c = search needs
-
-part-find-start : tie.Need-part-find-start
-part-find-start c = search needs
-
-part-find-end : tie.Need-part-find-end
-part-find-end c = search needs
-
-find-requires : tie.Need-find-requires
-find-requires c κs = search needs
-
-enum-known-e : tie.Need-enum-known-e
-enum-known-e c = search needs
-
-sub-fill : tie.Need-sub-fill
-sub-fill c = search needs
-
-part-fill-start : tie.Need-part-fill-start
-part-fill-start c = search needs
-
-part-fill-end : tie.Need-part-fill-end
-part-fill-end c = search needs
-
-fill-requires : tie.Need-fill-requires
-fill-requires c κs = search needs
-
-enum-told : tie.Need-enum-told
-enum-told c = search needs
-
-same-length : tie.Need-same-length
-same-length c = search needs
-
 returns : tie.Need-returns
 unfolding effect-of reply-of found-entry data-effect
 returns c =
@@ -53,9 +20,6 @@ returns c =
     ap quiet (table-changed (a .m .now) (t .fill .last .0) (st .pre) (omega arith) (filled (a .sender) (a .sn) (a .value) (a .hops % 8)) (t .fill .ensures .items))
     ∙ rw (e, not-true (x .e .given .0 .0 .received) (i .if1 .taken))
 
-same-length-2 : tie.Need-same-length-2
-same-length-2 c = search needs
-
 returns-2 : tie.Need-returns-2
 unfolding effect-of reply-of found-entry data-effect
 returns-2 c =
@@ -64,9 +28,6 @@ returns-2 c =
     let a = k .before .before .before .before .args in
     let e = ap (λ l. entry l (a .sender) (a .sn)) (table-part (a .m .now)) ∙ sym (k .find .ensures) ∙ ap found-entry (x .e .given .1) in
     rw (e, not-false (x .e .given .0 .0 .received) (c .if1 .left))
-
-same-length-3 : tie.Need-same-length-3
-same-length-3 c = search needs
 
 returns-3 : tie.Need-returns-3
 unfolding effect-of reply-of found-entry data-effect
@@ -80,19 +41,19 @@ pub data-in-spec : {M : Type 1} → statement M
 data-in-spec =
     tie.close
     (tie.spec
-    sub-find
-    part-find-start
-    part-find-end
-    find-requires
-    enum-known-e
-    sub-fill
-    part-fill-start
-    part-fill-end
-    fill-requires
-    enum-told
-    same-length
+    (λ c. search needs)
+    (λ c. search needs)
+    (λ c. search needs)
+    (λ c κs. search needs)
+    (λ c. search needs)
+    (λ c. search needs)
+    (λ c. search needs)
+    (λ c. search needs)
+    (λ c κs. search needs)
+    (λ c. search needs)
+    (λ c. search needs)
     returns
-    same-length-2
+    (λ c. search needs)
     returns-2
-    same-length-3
+    (λ c. search needs)
     returns-3)

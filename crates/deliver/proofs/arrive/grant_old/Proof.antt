@@ -8,44 +8,11 @@ use Rattle.deliver.proofs.Tags.{no-unticketed}
 use Rattle.deliver.proofs.arrive.grant_old.Statement.{statement}
 use Rattle.deliver.proofs.arrive.grant_old.Tie as tie
 
-sub-lookup : tie.Need-sub-lookup
-sub-lookup c = search needs
-
-part-lookup-start : tie.Need-part-lookup-start
-part-lookup-start c = search needs
-
-part-lookup-end : tie.Need-part-lookup-end
-part-lookup-end c = search needs
-
-lookup-requires : tie.Need-lookup-requires
-lookup-requires c κs = search needs
-
-enum-told : tie.Need-enum-told
-enum-told c = search needs
-
-same-length : tie.Need-same-length
-same-length c = search needs
-
 returns : tie.Need-returns
 unfolding effect-of reply-of grant-old-effect
 returns c =
     let k = c .before in
     rw (log-part, ← k .lookup .ensures) (no-unticketed _ _ _ (c .match .keys2))
-
-sub-remove : tie.Need-sub-remove
-sub-remove c = search needs
-
-part-remove-start : tie.Need-part-remove-start
-part-remove-start c = search needs
-
-part-remove-end : tie.Need-part-remove-end
-part-remove-end c = search needs
-
-remove-requires : tie.Need-remove-requires
-remove-requires c κs = search needs
-
-same-length-2 : tie.Need-same-length-2
-same-length-2 c = search needs
 
 returns-2 : tie.Need-returns-2
 unfolding unticketed effect-of reply-of grant-old-effect
@@ -62,16 +29,16 @@ pub grant-old-spec : {M : Type 1} → statement M
 grant-old-spec =
     tie.close
     (tie.spec
-    sub-lookup
-    part-lookup-start
-    part-lookup-end
-    lookup-requires
-    enum-told
-    same-length
+    (λ c. search needs)
+    (λ c. search needs)
+    (λ c. search needs)
+    (λ c κs. search needs)
+    (λ c. search needs)
+    (λ c. search needs)
     returns
-    sub-remove
-    part-remove-start
-    part-remove-end
-    remove-requires
-    same-length-2
+    (λ c. search needs)
+    (λ c. search needs)
+    (λ c. search needs)
+    (λ c κs. search needs)
+    (λ c. search needs)
     returns-2)

@@ -7,44 +7,11 @@ use Rattle.deliver.proofs.Tags.{no-unticketed}
 use Rattle.deliver.proofs.arrive.grant_received.Statement.{statement}
 use Rattle.deliver.proofs.arrive.grant_received.Tie as tie
 
-sub-lookup : tie.Need-sub-lookup
-sub-lookup c = search needs
-
-part-lookup-start : tie.Need-part-lookup-start
-part-lookup-start c = search needs
-
-part-lookup-end : tie.Need-part-lookup-end
-part-lookup-end c = search needs
-
-lookup-requires : tie.Need-lookup-requires
-lookup-requires c κs = search needs
-
-enum-told : tie.Need-enum-told
-enum-told c = search needs
-
-same-length : tie.Need-same-length
-same-length c = search needs
-
 returns : tie.Need-returns
 unfolding effect-of reply-of grant-received-effect
 returns c =
     let k = c .before in
     rw (log-part, ← k .lookup .ensures) (no-unticketed _ _ _ (c .match .keys2))
-
-sub-set-ticket : tie.Need-sub-set-ticket
-sub-set-ticket c = search needs
-
-part-set-ticket-start : tie.Need-part-set-ticket-start
-part-set-ticket-start c = search needs
-
-part-set-ticket-end : tie.Need-part-set-ticket-end
-part-set-ticket-end c = search needs
-
-set-ticket-requires : tie.Need-set-ticket-requires
-set-ticket-requires c κs = search needs
-
-same-length-2 : tie.Need-same-length-2
-same-length-2 c = search needs
 
 returns-2 : tie.Need-returns-2
 unfolding unticketed effect-of reply-of grant-received-effect
@@ -61,16 +28,16 @@ pub grant-received-spec : {M : Type 1} → statement M
 grant-received-spec =
     tie.close
     (tie.spec
-    sub-lookup
-    part-lookup-start
-    part-lookup-end
-    lookup-requires
-    enum-told
-    same-length
+    (λ c. search needs)
+    (λ c. search needs)
+    (λ c. search needs)
+    (λ c κs. search needs)
+    (λ c. search needs)
+    (λ c. search needs)
     returns
-    sub-set-ticket
-    part-set-ticket-start
-    part-set-ticket-end
-    set-ticket-requires
-    same-length-2
+    (λ c. search needs)
+    (λ c. search needs)
+    (λ c. search needs)
+    (λ c κs. search needs)
+    (λ c. search needs)
     returns-2)

@@ -5,30 +5,12 @@ use Rattle.restart.specs.{Limited.more, Resends.packets-of, Sent.{put-on
 use Rattle.restart.proofs.resend.put.Statement.{statement}
 use Rattle.restart.proofs.resend.put.Tie as tie
 
-enum-known-o : tie.Need-enum-known-o
-enum-known-o c = search needs
-
-enum-told : tie.Need-enum-told
-enum-told c = search needs
-
 returns : tie.Need-returns
 unfolding more packets-of
 returns c = rw (c .enum-told .given .1)
 
-count-requires : tie.Need-count-requires
-count-requires c κs = search needs
-
-same-length : tie.Need-same-length
-same-length c = search needs
-
 returns-2 : tie.Need-returns-2
 returns-2 c = let a = c .before .before .before .before .before .before .before .args in rw (c .before .before .before .before .o .given .1) (put-full (a .m) _ (a .wire .now) (omega arith))
-
-join-requires : tie.Need-join-requires
-join-requires c κs = search needs
-
-same-length-2 : tie.Need-same-length-2
-same-length-2 c = search needs
 
 returns-3 : tie.Need-returns-3
 unfolding about
@@ -42,12 +24,12 @@ pub put-spec : {M : Type 1} → statement M
 put-spec =
     tie.close
     (tie.spec
-    enum-known-o
-    enum-told
+    (λ c. search needs)
+    (λ c. search needs)
     returns
-    count-requires
-    same-length
+    (λ c κs. search needs)
+    (λ c. search needs)
     returns-2
-    join-requires
-    same-length-2
+    (λ c κs. search needs)
+    (λ c. search needs)
     returns-3)

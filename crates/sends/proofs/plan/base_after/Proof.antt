@@ -7,18 +7,6 @@ returns : tie.Need-returns
 unfolding base-after
 returns c = rw (not-true (c .before .args .same) (c .if1 .taken))
 
-enum-told : tie.Need-enum-told
-enum-told c = search needs
-
-enum-told-2 : tie.Need-enum-told-2
-enum-told-2 c = search needs
-
-enum-known-k : tie.Need-enum-known-k
-enum-known-k c = search needs
-
-enum-told-3 : tie.Need-enum-told-3
-enum-told-3 c = search needs
-
 returns-2 : tie.Need-returns-2
 unfolding base-after is-new tn-of
 returns-2 c = rw (not-false (c .before .before .before .args .same) (c .before .before .if1 .left), c .enum-told .given .1)
@@ -40,10 +28,10 @@ base-after-spec =
     tie.close
     (tie.spec
     returns
-    enum-told
-    enum-told-2
-    enum-known-k
-    enum-told-3
+    (λ c. search needs)
+    (λ c. search needs)
+    (λ c. search needs)
+    (λ c. search needs)
     returns-2
     returns-3
     returns-4

@@ -5,53 +5,11 @@ use Rattle.tickets.specs.Table.{found-entry}
 use Rattle.sends.proofs.plan.plan_on.Statement.{statement}
 use Rattle.sends.proofs.plan.plan_on.Tie as tie
 
-idle-requires : tie.Need-idle-requires
-idle-requires c κs = search needs
-
 returns : tie.Need-returns
 returns c = unfold plan-for in rw (le-ltb (c .before .before .before .args .last) 60000 (c .before .if1 .taken)) (c .idle .ensures)
 
-idle-requires-2 : tie.Need-idle-requires-2
-idle-requires-2 c κs = search needs
-
 returns-2 : tie.Need-returns-2
 returns-2 c = let a = c .before .before .before .before .args in unfold plan-for in rw (lt-ltb (a .last) 60000 (c .before .before .if1 .left), not-true (a .near) (c .before .if2 .taken)) (c .idle2 .ensures)
-
-sub-find : tie.Need-sub-find
-sub-find c = search needs
-
-part-find-start : tie.Need-part-find-start
-part-find-start c = search needs
-
-part-find-end : tie.Need-part-find-end
-part-find-end c = search needs
-
-add-find : tie.Need-add-find
-add-find c = search needs
-
-find-requires : tie.Need-find-requires
-find-requires c κs = search needs
-
-enum-known-e : tie.Need-enum-known-e
-enum-known-e c = search needs
-
-idle-requires-3 : tie.Need-idle-requires-3
-idle-requires-3 c κs = search needs
-
-enum-told : tie.Need-enum-told
-enum-told c = search needs
-
-height-requires : tie.Need-height-requires
-height-requires c κs = search needs
-
-add-new-plan : tie.Need-add-new-plan
-add-new-plan c = search needs
-
-base-after-requires : tie.Need-base-after-requires
-base-after-requires c κs = search needs
-
-extra-after-requires : tie.Need-extra-after-requires
-extra-after-requires c κs = search needs
 
 new-plan-requires : tie.Need-new-plan-requires
 new-plan-requires c κs = let a = c .before .before .before .before .before .before .before .before .before .before .args in (search needs, omega (arith, extra-top (a .same) (a .k), c .extra-after .ensures))
@@ -81,22 +39,22 @@ pub plan-on-spec : {M : Type 1} → statement M
 plan-on-spec =
     tie.close
     (tie.spec
-    idle-requires
+    (λ c κs. search needs)
     returns
-    idle-requires-2
+    (λ c κs. search needs)
     returns-2
-    sub-find
-    part-find-start
-    part-find-end
-    add-find
-    find-requires
-    enum-known-e
-    idle-requires-3
-    enum-told
-    height-requires
-    add-new-plan
-    base-after-requires
-    extra-after-requires
+    (λ c. search needs)
+    (λ c. search needs)
+    (λ c. search needs)
+    (λ c. search needs)
+    (λ c κs. search needs)
+    (λ c. search needs)
+    (λ c κs. search needs)
+    (λ c. search needs)
+    (λ c κs. search needs)
+    (λ c. search needs)
+    (λ c κs. search needs)
+    (λ c κs. search needs)
     new-plan-requires
     returns-3
     returns-4)
