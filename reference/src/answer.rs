@@ -16,9 +16,49 @@ pub enum Question {
     WireSpace = 11,
 }
 
+/// The rule that an accepted frame used; its letter ends the line.
+#[derive(Clone, Copy, Debug, PartialEq, Eq, PartialOrd, Ord, Hash)]
+pub enum Rule {
+    AskFound,
+    AskWorked,
+    AskNew,
+    GrantDropped,
+    GrantOld,
+    GrantReceived,
+    GrantNew,
+    DataFilled,
+    DataDropped,
+    /// Every other frame, a NOTE's and an ACK's delivery included.
+    Other,
+}
+
+impl Rule {
+    pub const ALL: [Rule; 10] = [
+        Rule::AskFound,
+        Rule::AskWorked,
+        Rule::AskNew,
+        Rule::GrantDropped,
+        Rule::GrantOld,
+        Rule::GrantReceived,
+        Rule::GrantNew,
+        Rule::DataFilled,
+        Rule::DataDropped,
+        Rule::Other,
+    ];
+
+    /// A to J, in the order above.
+    pub fn letter(self) -> char {
+        self.byte() as char
+    }
+
+    fn byte(self) -> u8 {
+        b'A' + self as u8
+    }
+}
+
 #[derive(Clone, Copy, Debug, PartialEq, Eq)]
 pub enum Answer {
-    Accepted,
+    Accepted(Rule),
     Shown {
         height: u16,
         state: u32,
@@ -40,13 +80,24 @@ fn put_hex(out: &mut Vec<u8>, number: u32, digits: u32) {
 impl Answer {
     /// Does the line begin with 00?
     pub fn is_accepted(self) -> bool {
-        matches!(self, Answer::Accepted | Answer::Shown { .. })
+        matches!(self, Answer::Accepted(_) | Answer::Shown { .. })
+    }
+
+    /// The rule whose letter ends the line; none where the line has no letter.
+    pub fn rule(self) -> Option<Rule> {
+        match self {
+            Answer::Accepted(rule) => Some(rule),
+            Answer::Shown { .. } => Some(Rule::Other),
+            Answer::Lost | Answer::Refused(_) => None,
+        }
     }
 
     /// Writes the line, newline included.
     pub fn print(self, out: &mut Vec<u8>) {
         match self {
-            Answer::Accepted => out.extend_from_slice(b"00\n"),
+            Answer::Accepted(rule) => {
+                out.extend_from_slice(&[b'0', b'0', rule.byte(), b'\n']);
+            }
             Answer::Lost => out.extend_from_slice(b"FF\n"),
             Answer::Refused(question) => {
                 let number = question as u8;
@@ -56,7 +107,7 @@ impl Answer {
                 out.extend_from_slice(b"00");
                 put_hex(out, u32::from(height), 4);
                 put_hex(out, state, 8);
-                out.push(b'\n');
+                out.extend_from_slice(&[Rule::Other.byte(), b'\n']);
             }
         }
     }

@@ -15,7 +15,7 @@ pub const ANSWERS: [&str; 13] = [
 
 fn place(answer: Answer) -> usize {
     match answer {
-        Answer::Accepted | Answer::Shown { .. } => 0,
+        Answer::Accepted(_) | Answer::Shown { .. } => 0,
         Answer::Refused(question) => question as usize,
         Answer::Lost => 12,
     }

@@ -1,6 +1,6 @@
 //! Deliveries, one function per kind of packet.
 
-use crate::answer::Question;
+use crate::answer::{Question, Rule};
 use crate::job::{ix, Job};
 use crate::limits::MAX_NUMBER;
 use crate::message::{Body, Lookup};
@@ -9,7 +9,8 @@ use crate::wire::{Content, Kind, Name};
 use crate::world::{destination, Note, World};
 
 impl World {
-    pub fn deliver(&mut self, job: &Job, name: Name) -> Result<(), Question> {
+    /// Delivers the oldest packet of this name, and says the rule that the state before it chose.
+    pub fn deliver(&mut self, job: &Job, name: Name) -> Result<Rule, Question> {
         if !self.is_up(destination(job, name)) {
             return Err(Question::Up);
         }
@@ -19,42 +20,43 @@ impl World {
         // An answering packet takes the place that the delivered one leaves, so the wire never
         // refuses.
         let content = self.wire.content(at);
-        let reply = match content {
-            Content::Ask => Some((Kind::Grant, self.ask(name)?)),
+        let (rule, reply) = match content {
+            Content::Ask => {
+                let (rule, grant) = self.ask(name)?;
+                (rule, Some((Kind::Grant, grant)))
+            }
             Content::GrantOld | Content::GrantReceived(_) | Content::GrantNew(_) => {
                 self.grant(name, content)
             }
-            Content::Data { value, hops } => {
-                self.data(name, Body { value, hops });
-                None
-            }
-            Content::Note(tn) => Some((Kind::Ack, self.note(job, name, tn)?)),
+            Content::Data { value, hops } => (self.data(name, Body { value, hops }), None),
+            Content::Note(tn) => (Rule::Other, Some((Kind::Ack, self.note(job, name, tn)?))),
             Content::Ack => {
                 self.ack(name);
-                None
+                (Rule::Other, None)
             }
         };
         self.wire.remove(at);
         if let Some((kind, content)) = reply {
             self.wire.push(name.with_kind(kind), content);
         }
-        Ok(())
+        Ok(rule)
     }
 
     /// The GRANT for a message, with a new ticket if it has none and is not worked.
-    fn ask(&mut self, name: Name) -> Result<Content, Question> {
+    fn ask(&mut self, name: Name) -> Result<(Rule, Content), Question> {
         let (sender, sn) = (name.sender(), name.sn());
         let chare = &mut self.chares[ix(name.receiver())];
         if let Some(at) = chare.table.find(sender, sn) {
             let entry = &chare.table.0[at];
-            return Ok(match entry.received {
+            let grant = match entry.received {
                 Some(_) => Content::GrantReceived(entry.tn),
                 None => Content::GrantNew(entry.tn),
-            });
+            };
+            return Ok((Rule::AskFound, grant));
         }
         let seen = &chare.seen[sender as usize];
         if seen.has(sn) {
-            return Ok(Content::GrantOld);
+            return Ok((Rule::AskWorked, Content::GrantOld));
         }
         let tn = chare.next_ticket(None);
         if tn > MAX_NUMBER {
@@ -74,34 +76,39 @@ impl World {
         if !entered {
             return Err(Question::Space);
         }
-        Ok(Content::GrantNew(tn))
+        Ok((Rule::AskNew, Content::GrantNew(tn)))
     }
 
-    fn grant(&mut self, name: Name, content: Content) -> Option<(Kind, Content)> {
+    fn grant(&mut self, name: Name, content: Content) -> (Rule, Option<(Kind, Content)>) {
         let log = self.log_mut(name.sender());
         let Lookup::Waiting(at) = log.look_up(name.receiver(), name.sn()) else {
-            return None;
+            return (Rule::GrantDropped, None);
         };
         match content {
             Content::GrantReceived(tn) => {
                 log.0[at].tn = Some(tn);
-                None
+                (Rule::GrantReceived, None)
             }
             Content::GrantNew(tn) => {
                 log.0[at].tn = Some(tn);
-                Some((Kind::Data, Content::data(log.0[at].body)))
+                let data = Content::data(log.0[at].body);
+                (Rule::GrantNew, Some((Kind::Data, data)))
             }
             _ => {
                 log.0.remove(at);
-                None
+                (Rule::GrantOld, None)
             }
         }
     }
 
-    fn data(&mut self, name: Name, body: Body) {
+    fn data(&mut self, name: Name, body: Body) -> Rule {
         let table = &mut self.chares[ix(name.receiver())].table;
-        if let Some(at) = table.find(name.sender(), name.sn()) {
-            table.0[at].received.get_or_insert(body);
+        match table.find(name.sender(), name.sn()) {
+            Some(at) if table.0[at].received.is_none() => {
+                table.0[at].received = Some(body);
+                Rule::DataFilled
+            }
+            _ => Rule::DataDropped,
         }
     }
 

@@ -10,8 +10,8 @@ extern "C" {
     ) -> usize;
 }
 
-/// No line is longer than this, newline included: a show has 14 digits.
-pub const LINE_SPACE: usize = 15;
+/// No line is longer than this, newline included: a show has 14 digits and a letter.
+pub const LINE_SPACE: usize = 16;
 
 /// The engine's output for a whole input, written into `out`; its length, if there is room.
 pub fn write_transcript(input: &[u8], out: &mut [u8]) -> Option<usize> {
@@ -26,7 +26,7 @@ pub fn write_transcript(input: &[u8], out: &mut [u8]) -> Option<usize> {
 pub fn transcript(input: &[u8]) -> Vec<u8> {
     let lines = input.iter().filter(|&&b| b == b'\n').count() + 1;
     let mut out = vec![0; LINE_SPACE * lines];
-    let len = write_transcript(input, &mut out).expect("15 bytes a line are enough");
+    let len = write_transcript(input, &mut out).expect("16 bytes a line are enough");
     out.truncate(len);
     out
 }

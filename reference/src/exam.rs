@@ -94,9 +94,9 @@ fn fits(wish: &Wish, list: &[u8]) -> bool {
 /// What happened with a frame.
 fn events(after: &State, frame: Option<Frame>, answer: Answer) -> Vec<Event> {
     match (frame, answer) {
-        (Some(Frame::Crash { .. }), Answer::Accepted) => vec![Event::Crash],
+        (Some(Frame::Crash { .. }), Answer::Accepted(_)) => vec![Event::Crash],
         (Some(Frame::Crash { .. }), Answer::Lost) => vec![Event::Lost],
-        (Some(Frame::Restart { machine }), Answer::Accepted) => {
+        (Some(Frame::Restart { machine }), Answer::Accepted(_)) => {
             let chares = after.job.iter().flat_map(|job| job.chares_on(machine));
             let mut memories = chares.map(|chare| after.world.chare(chare));
             match memories.any(|chare| chare.holes().next().is_some()) {

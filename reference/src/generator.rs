@@ -101,7 +101,7 @@ impl Generator {
     pub fn heard(&mut self, answer: Answer) {
         self.stuck += 1;
         match answer {
-            Answer::Accepted => {
+            Answer::Accepted(_) => {
                 self.cramped = 0;
                 if self.moving {
                     self.stuck = 0;

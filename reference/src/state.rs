@@ -1,6 +1,6 @@
 //! The whole state and the step: one frame in, one answer out.
 
-use crate::answer::{Answer, Question};
+use crate::answer::{Answer, Question, Rule};
 use crate::frame::{parse, Frame};
 use crate::job::Job;
 use crate::limits::{MAX_HOPS, MAX_NUMBER};
@@ -46,7 +46,7 @@ impl State {
                 let new = Job::from_draft(draft).ok_or(Question::Range)?;
                 world.start(&new);
                 *job = Some(new);
-                return Ok(Answer::Accepted);
+                return Ok(Answer::Accepted(Rule::Other));
             }
             (_, None) => return Err(Question::Job),
             (_, Some(job)) => job,
@@ -57,11 +57,12 @@ impl State {
         if *lost {
             return Err(Question::NotLost);
         }
+        let mut rule = Rule::Other;
         match *frame {
             Frame::Job(_) => {}
             Frame::Inject { chare, value, hops } => world.inject(chare, Body { value, hops })?,
             Frame::Deliver(delivery) => {
-                world.deliver(job, delivery.name().ok_or(Question::Range)?)?
+                rule = world.deliver(job, delivery.name().ok_or(Question::Range)?)?;
             }
             Frame::Work { chare } => world.work(job, chare)?,
             Frame::Checkpoint { machine } => world.checkpoint(job, machine)?,
@@ -84,7 +85,7 @@ impl State {
             }
         }
         world.settle(job);
-        Ok(Answer::Accepted)
+        Ok(Answer::Accepted(rule))
     }
 
     /// Is this a quiet moment: a job set, nothing lost, no machine down or catching up?

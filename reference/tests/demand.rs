@@ -271,7 +271,7 @@ fn a_rival_that_only_raises_the_height_is_seen() {
                     caught += 1;
                     break;
                 }
-                Ok(Answer::Accepted) => {}
+                Ok(Answer::Accepted(_)) => {}
                 Ok(_) => continue,
             }
             match frame {

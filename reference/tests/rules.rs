@@ -14,7 +14,8 @@ fn start(job: &str) -> State {
 
 fn accept(state: &mut State, frames: &[&str]) {
     for frame in frames {
-        assert_eq!(state.line(frame.as_bytes()), Answer::Accepted, "{frame}");
+        let answer = state.line(frame.as_bytes());
+        assert!(matches!(answer, Answer::Accepted(_)), "{frame}: {answer:?}");
     }
 }
 

@@ -23,7 +23,8 @@ fn play(state: &mut State, pairs: &[(&str, &str)]) {
 
 fn accept(state: &mut State, frames: &[&str]) {
     for frame in frames {
-        assert_eq!(state.line(frame.as_bytes()), Answer::Accepted, "{frame}");
+        let answer = state.line(frame.as_bytes());
+        assert!(matches!(answer, Answer::Accepted(_)), "{frame}: {answer:?}");
     }
 }
 
