@@ -18,7 +18,7 @@ fn same(name: &str, input: &[u8]) {
 #[test]
 fn vectors() {
     let folder = Path::new(env!("CARGO_MANIFEST_DIR")).join("tests/vectors");
-    for number in 1..=41 {
+    for number in 1..=50 {
         let input = fs::read(folder.join(format!("{number:02}.in"))).unwrap();
         same(&format!("list {number:02}"), &input);
     }
@@ -75,10 +75,10 @@ fn a_buffer_that_is_too_small() {
 /// That test can fail: on nothing written, on half of it, and on a line that is cut.
 #[test]
 fn a_short_buffer_is_looked_at() {
-    let whole = b"00\n00\n00\n00\n00\n00\n00\n00\n00\n00\n00\n00\n";
+    let whole = b"00J\n00J\n00J\n00J\n00J\n00J\n00J\n00J\n";
     let buffer = |written: usize| [&whole[..written], &vec![b'.'; 30 - written]].concat();
     assert!(!holds_what_fits(&buffer(0), whole));
-    assert!(!holds_what_fits(&buffer(15), whole));
-    assert!(!holds_what_fits(&buffer(28), whole));
-    assert!(holds_what_fits(&buffer(18), whole));
+    assert!(!holds_what_fits(&buffer(12), whole));
+    assert!(!holds_what_fits(&buffer(27), whole));
+    assert!(holds_what_fits(&buffer(16), whole));
 }
