@@ -1,6 +1,6 @@
 //! Counts of what a list has reached.
 
-use crate::answer::Answer;
+use crate::answer::{Answer, Rule};
 use crate::frame::Frame;
 use crate::job::ix;
 use crate::state::State;
@@ -60,6 +60,8 @@ const EVENTS: usize = Event::WholeWindow as usize + 1;
 #[derive(Clone, Debug)]
 pub struct Census {
     pub answers: [u64; ANSWERS.len()],
+    /// How often each letter ended a line, in the order of `Rule::ALL`.
+    pub letters: [u64; Rule::ALL.len()],
     events: [(Option<Event>, u64); EVENTS],
     pub frames: u64,
     pub longest_wire: usize,
@@ -69,6 +71,7 @@ impl Census {
     pub fn new() -> Census {
         Census {
             answers: [0; ANSWERS.len()],
+            letters: [0; Rule::ALL.len()],
             events: [(None, 0); EVENTS],
             frames: 0,
             longest_wire: 0,
@@ -85,6 +88,13 @@ impl Census {
         self.answers.iter().enumerate().all(seen)
     }
 
+    /// The letters that ended no line.
+    pub fn unseen_letters(&self) -> Vec<char> {
+        let counted = Rule::ALL.iter().zip(&self.letters);
+        let unseen = counted.filter(|(_, &count)| count == 0);
+        unseen.map(|(rule, _)| rule.letter()).collect()
+    }
+
     fn add(&mut self, event: Event) {
         let (name, count) = &mut self.events[event as usize];
         *name = Some(event);
@@ -95,6 +105,9 @@ impl Census {
     pub fn garbled(&mut self, answer: Answer) {
         self.frames += 1;
         self.answers[place(answer)] += 1;
+        if let Some(rule) = answer.rule() {
+            self.letters[rule as usize] += 1;
+        }
     }
 
     /// What can be seen before a frame, for `after`.
@@ -263,6 +276,9 @@ impl fmt::Display for Census {
     fn fmt(&self, f: &mut fmt::Formatter<'_>) -> fmt::Result {
         for (name, count) in ANSWERS.iter().zip(&self.answers) {
             writeln!(f, "{name} {count}")?;
+        }
+        for (rule, count) in Rule::ALL.iter().zip(&self.letters) {
+            writeln!(f, "{} {count}", rule.letter())?;
         }
         for &(name, count) in &self.events {
             if let Some(event) = name {

@@ -41,6 +41,7 @@ fn random_lists() {
     }
     assert!(quiet_moments > 100_000, "{quiet_moments}");
     assert!(census.has_all_but_07(), "{census}");
+    assert!(census.unseen_letters().is_empty(), "{census}");
     for event in [
         Event::RestartWithHoles,
         Event::HoleTaken,

@@ -118,6 +118,10 @@ fn main() -> ExitCode {
             if !unseen.is_empty() {
                 println!("answers not seen: {}", unseen.join(" "));
             }
+            let unseen = totals.census.unseen_letters();
+            if !unseen.is_empty() {
+                println!("letters not seen: {}", String::from_iter(unseen));
+            }
             ExitCode::SUCCESS
         }
         Err(message) => {
