@@ -76,6 +76,23 @@ fn the_whole_sitting() {
     play(&mut State::new(), &SITTING);
 }
 
+/// What a marker that needs document 01's lines does: FF must not lose a character.
+fn without_letter(line: &str) -> &str {
+    match line.starts_with("00") {
+        true => &line[..line.len() - 1],
+        false => line,
+    }
+}
+
+#[test]
+fn without_letters_the_lines_are_document_01s() {
+    let document_01 = "00 00 00 00 00 00 00 05 00 00 00 00000100000023 FF 04";
+    let frames: String = SITTING.iter().map(|pair| format!("{}\n", pair.0)).collect();
+    let lines = String::from_utf8(answer_all(frames.as_bytes())).unwrap();
+    let old: Vec<&str> = lines.lines().map(without_letter).collect();
+    assert_eq!(old.join(" "), document_01);
+}
+
 /// The first of the examples is this sitting.
 #[test]
 fn the_sitting_as_an_example() {
