@@ -111,12 +111,9 @@ impl Generator {
 
     /// Chooses a packet to hold back, or lets it go.
     fn hold(&mut self, state: &State) {
-        if !self.mood.holds {
-            return;
-        }
         let names = state.world.wire.names();
         let Some((name, left)) = self.held else {
-            if !names.is_empty() {
+            if self.mood.holds && !names.is_empty() {
                 let name = *self.rng.pick(names);
                 // An ASK can be held for long; other packets soon stop their receiver.
                 let ask = name.kind() == Kind::Ask;
@@ -273,7 +270,19 @@ impl Generator {
         if given(machine) < 2 && self.rng.one_in(2) {
             return self.deliver(job, state);
         }
+        if self.bounds.crashing {
+            self.hold_data(job, world, machine);
+        }
         Frame::Crash { machine }
+    }
+
+    /// Holds DATA from a machine back, so that after the restart it may be sent a second time.
+    fn hold_data(&mut self, job: &Job, world: &World, machine: u8) {
+        let mut names = world.wire.names().iter();
+        let own = |n: &&Name| n.kind() == Kind::Data && job.machine_of(n.sender()) == machine;
+        if let Some(&name) = names.find(own) {
+            self.held = Some((name, 30));
+        }
     }
 
     pub(crate) fn restart(&mut self, job: &Job, state: &State) -> Frame {

@@ -29,7 +29,7 @@ pub struct Bounds {
     pub chares: Option<usize>,
     /// No garbled frame and none out of range, in capitals.
     pub clean: bool,
-    /// Many crashes.
+    /// Many crashes, and DATA that comes twice after them.
     pub crashing: bool,
     /// The run may be lost in the last third, or never; not said, in every second list.
     pub may_be_lost: Option<bool>,
@@ -37,7 +37,7 @@ pub struct Bounds {
 
 pub struct Generator {
     pub(crate) rng: Rng,
-    bounds: Bounds,
+    pub(crate) bounds: Bounds,
     theme: Theme,
     pub(crate) mood: Mood,
     letters: Letters,
@@ -61,6 +61,14 @@ pub struct Generator {
 impl Generator {
     pub fn new(seed: u64, frames: usize) -> Generator {
         Generator::within(Bounds::default(), seed, frames)
+    }
+
+    pub fn crashing(seed: u64, frames: usize) -> Generator {
+        let bounds = Bounds {
+            crashing: true,
+            ..Bounds::default()
+        };
+        Generator::within(bounds, seed, frames)
     }
 
     pub fn within(bounds: Bounds, seed: u64, frames: usize) -> Generator {

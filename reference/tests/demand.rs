@@ -13,9 +13,10 @@ use reference::state::State;
 fn random_lists() {
     let mut census = Census::new();
     let mut quiet_moments = 0;
-    for seed in 0..150 {
+    let plain = (0..150).map(|seed| (seed, Generator::new(seed, 2000)));
+    let crashing = (0..50).map(|seed| (seed, Generator::crashing(seed, 2000)));
+    for (seed, mut generator) in plain.chain(crashing) {
         let mut list = Checked::new();
-        let mut generator = Generator::new(seed, 2000);
         let mut line = Vec::new();
         while generator.next(&list.state, &mut line) {
             let digits = &line[..line.len() - 1];

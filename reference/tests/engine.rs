@@ -1,7 +1,7 @@
 //! The proved engine, linked as a library, gives the second implementation's bytes.
 
 use reference::engine::{transcript, write_transcript, LINE_SPACE};
-use reference::generator::list;
+use reference::generator::{list, whole, Generator};
 use reference::long::{limit_list, Limit};
 use reference::reader::answer_all;
 use std::fs;
@@ -28,6 +28,8 @@ fn vectors() {
 fn random_lists() {
     for seed in 1..=300 {
         same(&format!("seed {seed}"), &list(seed, 400));
+        let crashing = whole(Generator::crashing(seed, 400));
+        same(&format!("seed {seed}, crashing"), &crashing);
     }
 }
 

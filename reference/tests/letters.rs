@@ -2,7 +2,7 @@
 
 use reference::answer::{Answer, Question, Rule};
 use reference::frame::{parse, Frame};
-use reference::generator::list;
+use reference::generator::{list, whole, Generator};
 use reference::state::State;
 use reference::wire::Content;
 
@@ -276,25 +276,36 @@ fn letter(before: &State, frame: &Frame) -> char {
     }
 }
 
+/// Plays a list; every letter is the one that the state before the frame gives, and stands in the line.
+fn check_letters(name: &str, list: &[u8]) {
+    let mut state = State::new();
+    for line in list.split(|&b| b == b'\n') {
+        let before = state.clone();
+        let answer = state.line(line);
+        let accepted = answer.is_accepted();
+        let want = accepted.then(|| letter(&before, &parse(line).unwrap()));
+        let text = String::from_utf8_lossy(line);
+        assert_eq!(answer.rule().map(Rule::letter), want, "{name}, {text}");
+        let mut printed = Vec::new();
+        answer.print(&mut printed);
+        match want {
+            Some(letter) => assert!(
+                printed.starts_with(b"00") && printed.ends_with(&[letter as u8, b'\n']),
+                "{name}, {text}"
+            ),
+            None => assert!(
+                !printed.starts_with(b"00") && printed.len() == 3,
+                "{name}, {text}"
+            ),
+        }
+    }
+}
+
 #[test]
 fn random_lists() {
-    for seed in 0..150 {
-        let mut state = State::new();
-        for line in list(seed, 1000).split(|&b| b == b'\n') {
-            let before = state.clone();
-            let answer = state.line(line);
-            let want = answer
-                .is_accepted()
-                .then(|| letter(&before, &parse(line).unwrap()));
-            let text = String::from_utf8_lossy(line);
-            assert_eq!(answer.rule().map(Rule::letter), want, "seed {seed}, {text}");
-            let mut printed = Vec::new();
-            answer.print(&mut printed);
-            let last = printed[printed.len() - 2] as char;
-            match want {
-                Some(letter) => assert!(printed.starts_with(b"00") && last == letter),
-                None => assert!(printed.len() == 3 && !printed.starts_with(b"00")),
-            }
-        }
+    for seed in 0..100 {
+        check_letters(&format!("seed {seed}"), &list(seed, 1000));
+        let crashing = whole(Generator::crashing(seed, 1000));
+        check_letters(&format!("seed {seed}, crashing"), &crashing);
     }
 }
