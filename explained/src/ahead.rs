@@ -140,7 +140,7 @@ fn first_line(step: &Step) -> String {
 
 fn tried(state: &State, frame: Frame, effect: impl FnOnce(&Step) -> String) -> Try {
     let verdict = probe(state, &frame, |step| match step.answer {
-        Answer::Accepted | Answer::Shown { .. } => Verdict::Yes(effect(step)),
+        Answer::Accepted(_) | Answer::Shown { .. } => Verdict::Yes(effect(step)),
         Answer::Refused(question) => {
             Verdict::No(step.line.to_string(), refusal::reason(step, question))
         }

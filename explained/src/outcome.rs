@@ -1,6 +1,7 @@
 //! What a delivered packet led to.
 
 use crate::words::Done;
+use reference::answer::Rule;
 use reference::job::ix;
 use reference::message::Lookup;
 use reference::wire::{Content, Name};
@@ -39,6 +40,28 @@ pub enum Outcome {
     NotedBefore { tn: u16 },
     /// ACK: no entry.
     NothingToNote,
+}
+
+impl Outcome {
+    /// The rule that it falls under.
+    pub fn rule(self) -> Rule {
+        match self {
+            Outcome::Known { .. } => Rule::AskFound,
+            Outcome::Worked => Rule::AskWorked,
+            Outcome::Given { .. } => Rule::AskNew,
+            Outcome::NotLogged | Outcome::Ticketed { .. } => Rule::GrantDropped,
+            Outcome::Removed => Rule::GrantOld,
+            Outcome::Set { .. } => Rule::GrantReceived,
+            Outcome::SetAndSent { .. } => Rule::GrantNew,
+            Outcome::Filled { .. } => Rule::DataFilled,
+            Outcome::FilledBefore { .. } | Outcome::NoEntry => Rule::DataDropped,
+            Outcome::Stored { .. }
+            | Outcome::StoredBefore
+            | Outcome::Noted { .. }
+            | Outcome::NotedBefore { .. }
+            | Outcome::NothingToNote => Rule::Other,
+        }
+    }
 }
 
 /// The packet that a delivery took off the wire.

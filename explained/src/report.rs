@@ -3,7 +3,9 @@
 use crate::lines::wrapped;
 use crate::picture::{Recorder, Story};
 use crate::play::{play, Difference, Step};
-use crate::words;
+use crate::words::{letter, words};
+use reference::answer::Rule;
+use std::collections::BTreeSet;
 
 /// What the tool makes of a list: the text, and all that a picture shows.
 pub struct Report {
@@ -26,13 +28,16 @@ const WIDTH: usize = 100;
 pub fn report(input: &[u8], engine: &[u8]) -> Report {
     let mut text = String::new();
     let mut recorder = Recorder::new();
+    let mut used = BTreeSet::new();
     let result = play(input, engine, |step| {
         put_step(&mut text, step);
         recorder.see(step);
+        used.extend(step.answer.rule());
     });
     let difference = result.err();
-    if let Some(difference) = &difference {
-        text.push_str(&difference.to_string());
+    match &difference {
+        Some(difference) => text.push_str(&difference.to_string()),
+        None => put_letters(&mut text, &used),
     }
     Report {
         text,
@@ -43,7 +48,19 @@ pub fn report(input: &[u8], engine: &[u8]) -> Report {
 
 fn put_step(text: &mut String, step: &Step) {
     text.push_str(&format!("{:>4}  {}\n", step.number, step.head()));
-    for line in words::words(step) {
+    for line in words(step) {
         text.push_str(&wrapped(&line, INDENT, WIDTH));
+    }
+}
+
+/// The letters that a list's lines end with, each with its meaning, one below another as the frames are.
+fn put_letters(text: &mut String, used: &BTreeSet<Rule>) {
+    if used.is_empty() {
+        return;
+    }
+    text.push_str(&format!("\n{}\n", letter::HEADING));
+    for &rule in used {
+        let meaning = wrapped(&format!("{}.", letter::meaning(rule)), INDENT, WIDTH);
+        text.push_str(&format!("{:>4}  {}", rule.letter(), &meaning[INDENT..]));
     }
 }

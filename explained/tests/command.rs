@@ -78,7 +78,7 @@ fn every_subcommand_takes_words_and_digits() {
         said_nothing(&in_words.2);
     }
     let (_, out, _) = fed(&["play", "-"], WORDS.as_bytes());
-    assert_eq!(out, "00\n00\n00\n00\n00\n00\n00\n05\n");
+    assert_eq!(out, "00J\n00J\n00C\n00G\n00H\n00J\n00J\n05\n");
     let (_, out, _) = fed(&["encode", "-"], WORDS.as_bytes());
     assert_eq!(out, digits);
     let (_, out, _) = fed(&["decode", "-"], digits.as_bytes());
@@ -158,7 +158,7 @@ fn state_shows_all_that_stands() {
     assert_eq!(status, 0);
     said_nothing(&error);
     for want in [
-        "After frame 6:  1201  work 1  ->  00\n",
+        "After frame 6:  1201  work 1  ->  00J\nRule J (any other accepted frame): ",
         "    machine 1: up\n",
         "  * height 1, state 00000023 (before: height 0, state 00000001)\n",
         "  * worked of the desk: mark 1, window empty\n",
@@ -224,7 +224,7 @@ fn next_says_what_is_accepted_and_what_is_blocked() {
     assert_eq!(status, 0);
     said_nothing(&error);
     for want in [
-        "Packets that can be delivered\n  deliver ASK 1>2 #1       110101020001  Chare 2 gives it a new ticket",
+        "Packets that can be delivered\n  deliver ASK 1>2 #1       110101020001  Rule C, new ticket: chare 2 gives it TN 1 ",
         "Works that are blocked\n  work 1                   1201  05: Machine 1 is down.\n",
         "  work 2                   1202  06: Chare 2 has given no TN 1.\n",
         "  restart 1                1501  Restart: ",
@@ -238,7 +238,7 @@ fn next_says_what_is_accepted_and_what_is_blocked() {
     assert!(out.contains("The run was lost at frame 13"), "{out}");
 }
 
-/// What `next` says of a frame is what the frame then gets.
+/// What `next` says of a frame is what the frame then gets: a number or FF, the letter of its rule, or J where it names none.
 #[test]
 fn next_is_true() {
     use reference::generator;
@@ -259,10 +259,12 @@ fn next_is_true() {
             let whole = [&list[..], digits.as_bytes(), b"\n"].concat();
             let answers = lines(&whole);
             let answer = answers.lines().last().expect("a line");
-            let said = words[at + 1]
-                .strip_suffix(':')
-                .filter(|word| word.len() == 2);
-            assert_eq!(answer, said.unwrap_or("00"), "seed {seed}: {line}");
+            let said = match words[at + 1..] {
+                ["Rule", letter, ..] => format!("00{}", letter.trim_end_matches(',')),
+                [word, ..] if word.len() == 3 && word.ends_with(':') => word[..2].to_string(),
+                _ => "00J".to_string(),
+            };
+            assert_eq!(answer, said, "seed {seed}: {line}");
         }
     }
 }

@@ -4,7 +4,7 @@ use explained::play::{play, Difference};
 use explained::report::report;
 
 const LIST: &[u8] = b"0102020201010200020000\n1001000301\n1601\n";
-const LINES: &[u8] = b"00\n00\n00000000000001\n";
+const LINES: &[u8] = b"00J\n00J\n00000000000001J\n";
 
 #[test]
 fn equal_lines_are_quiet() {
@@ -16,12 +16,12 @@ fn equal_lines_are_quiet() {
 
 #[test]
 fn the_message_names_the_frame_and_both_lines() {
-    let report = report(LIST, b"00\n09\n00000000000001\n");
+    let report = report(LIST, b"00J\n09\n00000000000001J\n");
     let want = Difference {
         number: 2,
         frame: "1001000301".to_string(),
         engine: "09".to_string(),
-        second: "00".to_string(),
+        second: "00J".to_string(),
     };
     assert_eq!(report.difference, Some(want));
     assert_eq!(report.status(), 1);
@@ -32,7 +32,7 @@ fn the_message_names_the_frame_and_both_lines() {
         "{text}"
     );
     assert!(text.contains("!!! proved engine:         09\n"), "{text}");
-    assert!(text.contains("!!! second implementation: 00\n"), "{text}");
+    assert!(text.contains("!!! second implementation: 00J\n"), "{text}");
     // The frame before is explained, the one that differs and those after it are not.
     assert!(text.contains("Job: "));
     assert!(!text.contains("Inject: ") && !text.contains("Show: "));
@@ -45,22 +45,36 @@ fn first_difference(lines: &[u8]) -> (usize, String, String) {
 
 #[test]
 fn lines_that_are_missing_cut_or_too_many() {
-    let (none, shown) = ("(no line)".to_string(), "00000000000001".to_string());
+    let (none, shown) = ("(no line)".to_string(), "00000000000001J".to_string());
     assert_eq!(
-        first_difference(b"00\n00\n"),
+        first_difference(b"00J\n00J\n"),
         (3, none.clone(), shown.clone())
     );
     let cut = format!("{shown} (without a newline)");
     assert_eq!(first_difference(&LINES[..LINES.len() - 1]), (3, cut, shown));
-    let more = [LINES, b"00\n"].concat();
-    assert_eq!(first_difference(&more), (4, "00".to_string(), none.clone()));
-    assert_eq!(first_difference(b""), (1, none, "00".to_string()));
+    let more = [LINES, b"00J\n"].concat();
+    assert_eq!(
+        first_difference(&more),
+        (4, "00J".to_string(), none.clone())
+    );
+    assert_eq!(first_difference(b""), (1, none, "00J".to_string()));
+}
+
+/// A letter alone is a difference too.
+#[test]
+fn letters_that_differ() {
+    let wrong = b"00J\n00C\n00000000000001J\n";
+    let second = "00J".to_string();
+    assert_eq!(first_difference(wrong), (2, "00C".to_string(), second));
+    let without = b"00J\n00J\n00000000000001\n";
+    let [engine, second] = ["00000000000001", "00000000000001J"].map(str::to_string);
+    assert_eq!(first_difference(without), (3, engine, second));
 }
 
 /// Whatever is made of a list says where the lines differ.
 #[test]
 fn states_and_pages_tell_of_a_difference() {
-    let wrong = b"00\n09\n00000000000001\n";
+    let wrong = b"00J\n09\n00000000000001J\n";
     match explained::state::after(LIST, wrong, 1) {
         Err(explained::state::Wrong::Difference(difference)) => assert_eq!(difference.number, 2),
         _ => panic!("no difference"),

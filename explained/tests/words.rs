@@ -2,7 +2,7 @@
 
 use explained::play::Step;
 use explained::words::words;
-use reference::answer::{Answer, Question};
+use reference::answer::{Answer, Question, Rule};
 use reference::frame::parse;
 use reference::state::State;
 use reference::world::{Note, Phase};
@@ -31,7 +31,7 @@ fn said(before: &State, given: &str, want: Answer) -> String {
 fn played(job: &str, frames: &[&str]) -> State {
     let mut state = State::new();
     for frame in [job].iter().chain(frames) {
-        assert_eq!(state.line(frame.as_bytes()), Answer::Accepted, "{frame}");
+        assert!(state.line(frame.as_bytes()).is_accepted(), "{frame}");
     }
     state
 }
@@ -65,9 +65,9 @@ const DATA_TWICE: [&str; 9] = [
 #[test]
 fn data_that_was_received_before() {
     let state = played(APART, &[&WORKED[..], &DATA_TWICE].concat());
-    let text = said(&state, "110301020001", Answer::Accepted);
+    let text = said(&state, "110301020001", Answer::Accepted(Rule::DataDropped));
     assert!(
-        text.contains("has received 1→2 #1, TN 1, before: dropped."),
+        text.contains("Rule I, dropped: chare 2 has received 1→2 #1, TN 1, before."),
         "{text}"
     );
 }
@@ -76,9 +76,9 @@ fn data_that_was_received_before() {
 fn data_without_an_entry() {
     let done = ["1202", "1302"];
     let state = played(APART, &[&WORKED[..], &DATA_TWICE, &done].concat());
-    let text = said(&state, "110301020001", Answer::Accepted);
+    let text = said(&state, "110301020001", Answer::Accepted(Rule::DataDropped));
     assert!(
-        text.contains("has no ticket for 1→2 #1 in its table: dropped."),
+        text.contains("Rule I, dropped: chare 2 has no ticket for 1→2 #1 in its table."),
         "{text}"
     );
 }
@@ -93,7 +93,7 @@ fn a_note_that_is_there_already() {
         tn: 1,
     };
     assert!(state.world.backups[0].notes.push(note));
-    let text = said(&state, "110401020001", Answer::Accepted);
+    let text = said(&state, "110401020001", Answer::Accepted(Rule::Other));
     assert!(
         text.contains("stored already, and not stored twice."),
         "{text}"
@@ -151,7 +151,7 @@ fn a_value_in_both_bases() {
         ]
         .concat(),
     );
-    let text = said(&state, "1202", Answer::Accepted);
+    let text = said(&state, "1202", Answer::Accepted(Rule::Other));
     assert!(text.contains("value 35 (hex 0023), hops 0"), "{text}");
     assert!(
         text.contains("plus 35 (hex 0023), gives 00000063"),
@@ -199,7 +199,7 @@ fn a_job_out_of_range() {
 #[test]
 fn buddies_of_a_job() {
     let job = "010301000300010000";
-    let text = said(&State::new(), job, Answer::Accepted);
+    let text = said(&State::new(), job, Answer::Accepted(Rule::Other));
     for want in [
         "Machine 1 (buddy: machine 3, 00 being the machine before): chare 1",
         "Machine 2 (buddy: machine 3): no chare.",
@@ -250,7 +250,7 @@ fn notes_without_a_copy_that_a_crash_takes() {
     let job = "010302020301010200010000";
     let frames = [&["1402", "1502"][..], &WORKED, &["110401020001"]].concat();
     let state = played(job, &frames);
-    let text = said(&state, "1402", Answer::Accepted);
+    let text = said(&state, "1402", Answer::Accepted(Rule::Other));
     let want = "Gone too: 1 note that it kept for machine 1, of which it held no copy.";
     assert!(text.contains(want), "{text}");
 }

@@ -11,6 +11,8 @@ tools/satuphir encode LIST               words to hexadecimal digits
 tools/satuphir decode LIST               hexadecimal digits to words
 
 LIST is a file, or - for standard input, in words or in hexadecimal digits (docs/RULES.md has both).
+The line of an accepted frame ends with a letter for the rule used: explain, page and state say what
+it means, and docs/RULES.md has all ten.
 
 --quick               play with the second implementation, which builds in seconds: these are not
                       the proved engine's lines, and every such run says so

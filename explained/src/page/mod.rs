@@ -6,8 +6,9 @@ use crate::lines::cut;
 use crate::picture::{Drawing, Recorder};
 use crate::play::{play, Difference, Step};
 use crate::state::compared;
-use crate::words::words;
+use crate::words::{letter, words};
 use json::{array, quoted};
+use reference::answer::Rule;
 use std::fmt::Write;
 
 /// A page holds the state after each frame, so a longer list would make it heavy.
@@ -66,8 +67,15 @@ fn moment(step: &Step) -> String {
     )
 }
 
+/// A letter with what it means.
+fn meaning(rule: Rule) -> String {
+    let meaning = crate::picture::escape(&letter::meaning(rule));
+    format!("<p><b>{}</b> {meaning}</p>\n", rule.letter())
+}
+
 fn html(title: &str, whose: &str, picture: &str, data: &str) -> String {
     let title = crate::picture::escape(title);
+    let letters: String = Rule::ALL.map(meaning).concat();
     let mut page = String::new();
     let _ = write!(
         page,
@@ -93,6 +101,8 @@ fn html(title: &str, whose: &str, picture: &str, data: &str) -> String {
 <div id=\"side\">
 <section><h2 id=\"head\"></h2><div id=\"text\" aria-live=\"polite\"></div></section>
 <section><h2>Packet</h2><p id=\"packet\"></p></section>
+<section><details id=\"letters\"><summary>{heading}</summary>
+{letters}</details></section>
 <section><h2>What stands</h2><p class=\"key\">* new or other than before, - gone</p><div id=\"state\"></div></section>
 </div>
 </main>
@@ -102,6 +112,7 @@ fn html(title: &str, whose: &str, picture: &str, data: &str) -> String {
 </body>
 </html>
 ",
+        heading = letter::HEADING,
         style = include_str!("page.css"),
         script = include_str!("page.js"),
     );

@@ -49,7 +49,7 @@ pub fn put_columns(svg: &mut Svg, story: &Story, layout: &Layout) {
 
 /// The answer line; a refusal is a mark with its number.
 fn put_line(svg: &mut Svg, row: &Row, y: f64) {
-    if matches!(row.answer, Answer::Accepted | Answer::Shown { .. }) {
+    if row.answer.is_accepted() {
         let place = Point::new(LINE_AT, y);
         return svg.text(place, Anchor::Start, "class=\"code\"", &row.line);
     }

@@ -18,7 +18,7 @@ const ROW_GAP: f64 = 3.0;
 pub const NUMBER_AT: f64 = 36.0;
 pub const FRAME_AT: f64 = 48.0;
 pub const LINE_AT: f64 = 162.0;
-const LANES_FROM: f64 = 276.0;
+const LANES_FROM: f64 = 284.0;
 
 /// Each side of a lane has room for half its name.
 const LEAST_SIDE: f64 = 66.0;

@@ -9,6 +9,8 @@ use super::marks::put_pill;
 use super::record::End;
 use super::svg::{text_width, Anchor, Point, Svg};
 use crate::names;
+use crate::words::letter;
+use reference::answer::Rule;
 use reference::wire::Kind;
 use reference::world::Phase;
 
@@ -18,6 +20,8 @@ enum Sample {
     Pill(MarkKind, &'static str),
     Lane(Look),
     Refusal,
+    /// An accepted line with its letter.
+    Letter(Rule),
 }
 
 const SAMPLES: [(Sample, &str); 19] = [
@@ -49,6 +53,7 @@ const SAMPLES: [(Sample, &str); 19] = [
 ];
 
 pub const NAMES: &str = "a→b #n: the message from sender a (0 is the desk) to chare b with SN n";
+const LEFT: f64 = 16.0;
 const ROW: f64 = 24.0;
 const GAP: f64 = 22.0;
 
@@ -58,34 +63,43 @@ fn sample_width(sample: Sample) -> f64 {
         Sample::Pill(_, text) => pill_width(text),
         Sample::Lane(_) => 12.0,
         Sample::Refusal => 26.0,
+        Sample::Letter(_) => 22.0,
     }
 }
 
-fn word(sample: Sample, word: &'static str) -> &'static str {
+fn word(sample: Sample, word: &str) -> String {
     match sample {
-        Sample::Packet(kind, End::Delivered(_)) => names::kind(kind),
-        _ => word,
+        Sample::Packet(kind, End::Delivered(_)) => names::kind(kind).to_string(),
+        Sample::Letter(rule) => letter::title(rule),
+        _ => word.to_string(),
     }
 }
 
 /// Draws the legend from `top` down and returns where it ends.
 pub fn put_legend(svg: &mut Svg, width: f64, top: f64) -> f64 {
-    const LEFT: f64 = 16.0;
+    let y = put_samples(svg, &SAMPLES, width, top);
+    let letters = Rule::ALL.map(|rule| (Sample::Letter(rule), ""));
+    let y = put_samples(svg, &letters, width, y);
+    svg.text(Point::new(LEFT, y + 4.0), Anchor::Start, "", NAMES);
+    y + ROW
+}
+
+/// Samples with their words, in as many rows as they need, from `top` down; returns where the next row stands.
+fn put_samples(svg: &mut Svg, samples: &[(Sample, &str)], width: f64, top: f64) -> f64 {
     let (mut x, mut y) = (LEFT, top);
-    for (sample, text) in SAMPLES {
+    for &(sample, text) in samples {
         let text = word(sample, text);
         let wide = sample_width(sample);
-        let whole = wide + 6.0 + text_width(text);
+        let whole = wide + 6.0 + text_width(&text);
         if x > LEFT && x + whole > width - LEFT {
             (x, y) = (LEFT, y + ROW);
         }
         put_sample(svg, sample, x, y, wide);
         let place = Point::new(x + wide + 6.0, y + 4.0);
-        svg.text(place, Anchor::Start, "", text);
+        svg.text(place, Anchor::Start, "", &text);
         x += whole + GAP;
     }
-    svg.text(Point::new(LEFT, y + ROW + 4.0), Anchor::Start, "", NAMES);
-    y + 2.0 * ROW
+    y + ROW
 }
 
 fn put_sample(svg: &mut Svg, sample: Sample, x: f64, y: f64, wide: f64) {
@@ -98,5 +112,9 @@ fn put_sample(svg: &mut Svg, sample: Sample, x: f64, y: f64, wide: f64) {
         Sample::Pill(kind, text) => put_pill(svg, middle, kind, text),
         Sample::Lane(look) => put_band(svg, middle.x, y - 9.0, y + 9.0, look),
         Sample::Refusal => put_refusal(svg, middle, "05"),
+        Sample::Letter(rule) => {
+            let (place, line) = (Point::new(x, y + 4.0), format!("00{}", rule.letter()));
+            svg.text(place, Anchor::Start, "class=\"code\"", &line);
+        }
     }
 }

@@ -7,6 +7,7 @@ pub use change::{compared, Entry, Mark, Section};
 
 use crate::names::count;
 use crate::play::{play, Difference, Step};
+use crate::words::letter;
 use reference::state::State;
 
 /// What stands after frame `number`, 0 being before the first. The state is the second implementation's, compared line by line
@@ -52,8 +53,10 @@ fn of_step(step: &Step) -> String {
         true => "What it changed: * new or other than before, - gone.",
         false => "It changed nothing.",
     };
+    let rule = step.answer.rule().map(letter::sentence);
+    let rule = rule.map_or_else(String::new, |rule| rule + "\n");
     format!(
-        "After frame {}:  {}\n{note}\n{}",
+        "After frame {}:  {}\n{rule}{note}\n{}",
         step.number,
         step.head(),
         listed(&sections)

@@ -1,9 +1,11 @@
 //! The words for a delivery.
 
+use super::letter::under;
 use super::send::ticket_source;
 use super::Done;
 use crate::names::{body, capital, message, packet, place, sender};
 use crate::outcome::{outcome, taken, Outcome};
+use reference::answer::Rule;
 use reference::message::Body;
 use reference::wire::{Content, Name};
 use reference::world::destination;
@@ -21,11 +23,21 @@ pub fn words(done: &Done) -> Vec<String> {
     lines
 }
 
+/// What came of it, under the rule that the line's letter names.
 fn effect(done: &Done, name: Name, content: Content) -> String {
+    let outcome = outcome(done, name, content);
+    let what = happened(done, name, content, outcome);
+    match outcome.rule() {
+        Rule::Other => capital(&what),
+        rule => under(rule, &what),
+    }
+}
+
+fn happened(done: &Done, name: Name, content: Content, outcome: Outcome) -> String {
     let what = message(name.sender(), name.receiver(), name.sn());
     let (who, chare) = (sender(name.sender()), name.receiver());
     let machine = done.job.machine_of(chare);
-    match outcome(done, name, content) {
+    match outcome {
         Outcome::Known { tn, received } => {
             let there = if received {
                 "is there"
@@ -33,37 +45,35 @@ fn effect(done: &Done, name: Name, content: Content) -> String {
                 "is not there yet"
             };
             format!(
-                "Chare {chare} has {what} in its table: it keeps TN {tn}, and the message {there}."
+                "in the table of chare {chare}, {what} has TN {tn} and keeps it; the message {there}."
             )
         }
         Outcome::Worked => {
             let sn = name.sn();
             format!(
-                "Chare {chare} has no ticket for {what} in its table, \
-                    but has worked SN {sn} of {who}: it is old."
+                "chare {chare} has no ticket for {what} in its table, \
+                    but has worked SN {sn} of {who}, so it is old."
             )
         }
         Outcome::Given { tn, .. } => {
             let whence = ticket_source(done, chare, tn);
             format!(
-                "Chare {chare} gives it a new ticket, TN {tn} ({whence}): \
+                "chare {chare} gives it TN {tn} ({whence}), \
                     not received yet, noted from the start."
             )
         }
-        Outcome::NotLogged => format!("The log of {who} has no message {what}: dropped."),
+        Outcome::NotLogged => format!("the log of {who} has no message {what}."),
         Outcome::Ticketed { tn } => {
-            format!("In the log of {who}, {what} has TN {tn} already: dropped.")
+            format!("in the log of {who}, {what} has TN {tn} already.")
         }
-        Outcome::Removed => format!("{what} has been worked: {who} removes it from the log."),
+        Outcome::Removed => format!("{what} has been worked, and {who} removes it from the log."),
         Outcome::Set { tn } => {
-            let who = capital(&who);
             format!(
                 "{who} logs TN {tn} for {what}. \
                     Chare {chare} has the message, so no DATA goes out."
             )
         }
         Outcome::SetAndSent { tn } => {
-            let who = capital(&who);
             format!("{who} logs TN {tn} for {what} and sends the message itself.")
         }
         Outcome::Filled { tn } => {
@@ -72,27 +82,27 @@ fn effect(done: &Done, name: Name, content: Content) -> String {
                 return String::new();
             };
             format!(
-                "TN {tn} of chare {chare} is filled ({}); the height is {height}.",
+                "TN {tn} of chare {chare} has its message ({}); the height is {height}.",
                 body(Body { value, hops })
             )
         }
         Outcome::FilledBefore { tn } => {
-            format!("Chare {chare} has received {what}, TN {tn}, before: dropped.")
+            format!("chare {chare} has received {what}, TN {tn}, before.")
         }
         Outcome::NoEntry => {
-            format!("Chare {chare} has no ticket for {what} in its table: dropped.")
+            format!("chare {chare} has no ticket for {what} in its table.")
         }
         Outcome::NothingToNote => {
-            format!("Chare {chare} has no ticket for {what} any more: nothing to mark.")
+            format!("chare {chare} has no ticket for {what} any more: nothing to mark.")
         }
         Outcome::Stored { tn, notes } => {
             let buddy = done.job.buddy_of(machine);
             format!(
-                "Machine {buddy} notes TN {tn} for {what}; \
+                "machine {buddy} notes TN {tn} for {what}; \
                     notes held for machine {machine}: {notes}."
             )
         }
-        Outcome::StoredBefore => "This note is stored already, and not stored twice.".to_string(),
+        Outcome::StoredBefore => "this note is stored already, and not stored twice.".to_string(),
         Outcome::Noted { tn } => format!("TN {tn} of chare {chare} is now noted."),
         Outcome::NotedBefore { tn } => {
             format!("TN {tn} of chare {chare} is noted already: nothing changes.")

@@ -1,10 +1,10 @@
 //! A frame in a few words, for the margin of the picture.
 
 use super::crash::no_cover;
-use super::refusal;
+use super::{letter, refusal};
 use crate::names::{self, count, message, short};
 use crate::play::Step;
-use reference::answer::Answer;
+use reference::answer::{Answer, Rule};
 use reference::frame::Frame;
 use reference::job::ix;
 use reference::limits::DESK;
@@ -35,7 +35,7 @@ pub fn headline(step: &Step) -> String {
             )
         }
         Frame::Deliver(delivery) => match delivery.name() {
-            Some(name) => format!("deliver {}", short(name)),
+            Some(name) => format!("deliver {}{}", short(name), rule(step.answer)),
             None => String::new(),
         },
         Frame::Work { chare } => {
@@ -52,5 +52,13 @@ pub fn headline(step: &Step) -> String {
         },
         Frame::Restart { machine } => format!("restart of machine {machine}"),
         Frame::Show { chare } => format!("show chare {chare}"),
+    }
+}
+
+/// What the letter of a delivery's line stands for, if it has a name of its own.
+fn rule(answer: Answer) -> String {
+    match answer.rule() {
+        None | Some(Rule::Other) => String::new(),
+        Some(rule) => format!(": {}", letter::name(rule)),
     }
 }

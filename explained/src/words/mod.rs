@@ -7,6 +7,7 @@ mod deliver;
 mod garbled;
 pub mod headline;
 mod job;
+pub mod letter;
 mod range;
 pub mod refusal;
 mod restart;
@@ -73,7 +74,7 @@ pub fn words(step: &Step) -> Vec<String> {
     match step.answer {
         Answer::Refused(question) => vec![refusal::words(step, question)],
         Answer::Lost => crash::lost(step),
-        Answer::Accepted | Answer::Shown { .. } => match Done::new(step) {
+        Answer::Accepted(_) | Answer::Shown { .. } => match Done::new(step) {
             Some(done) => accepted(&done, step.answer),
             None => Vec::new(),
         },
