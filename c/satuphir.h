@@ -12,7 +12,7 @@ extern "C" {
 
 /* No line is longer, newline included: so many bytes for each line of the input are room enough. The input has one line more than
    newlines, unless it ends in one. */
-#define SATUPHIR_LINE_SPACE 15
+#define SATUPHIR_LINE_SPACE 16
 
 /* The answer where `out` has no room for all lines. It then begins with the lines for which there was room. */
 #define SATUPHIR_NO_ROOM SIZE_MAX
