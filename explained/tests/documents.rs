@@ -3,10 +3,15 @@
 mod common;
 
 use common::run::{fed, fresh, run};
+use explained::names::joined;
 use explained::notation::{decode, encode};
+use explained::words::letter;
+use reference::answer::{Answer, Rule};
 use reference::reader::answer_all;
+use std::collections::BTreeSet;
 use std::fs;
 use std::path::{Path, PathBuf};
+use std::process::Command;
 
 fn root() -> PathBuf {
     Path::new(env!("CARGO_MANIFEST_DIR")).join("..")
@@ -50,7 +55,9 @@ fn own_list() -> String {
 fn the_sitting_of_readme() {
     let list = own_list();
     let (status, lines, _) = fed(&["play", "-"], list.as_bytes());
-    assert_eq!((status, lines.as_str()), (0, "00\n00\n00\n06\n"));
+    assert_eq!((status, lines.as_str()), (0, "00J\n00J\n00C\n06\n"));
+    let said = "The lines are `00J`, `00J`, `00C` and `06`.";
+    assert!(flowing("README.md").contains(said));
     let readme = document("README.md");
     let shown = blocks(&readme, "text");
     let [frame, refused, next] = shown[..] else {
@@ -194,6 +201,88 @@ fn the_frames_of_the_rules() {
             plain(&row[1]),
             "{words}"
         );
+    }
+}
+
+/// Every letter with its rule, in order, and no other.
+#[test]
+fn the_letters_of_the_rules() {
+    let rules = document("docs/RULES.md");
+    let is_letter = |cell: &str| cell.len() == 1 && cell.bytes().all(|b| b.is_ascii_uppercase());
+    let rows = rows(&rules).into_iter().filter(|row| row.len() == 2);
+    let rows = rows.map(|row| (plain(&row[0]), row[1].replace('*', "")));
+    let rows: Vec<_> = rows.filter(|(cell, _)| is_letter(cell)).collect();
+    let want = Rule::ALL.map(|rule| (rule.letter().to_string(), letter::meaning(rule)));
+    assert_eq!(rows, want);
+}
+
+/// What the rules give to a marker takes the letters away: the rule book's sitting then has the lines of document 01.
+#[test]
+fn lines_without_letters() {
+    let rules = document("docs/RULES.md");
+    let call = rules.split('`').find(|code| code.starts_with("sed "));
+    let call = call.expect("a call of sed");
+    let lines = root().join("examples/00-the-rule-books-sitting.out");
+    let output = Command::new("sh")
+        .args(["-c", call])
+        .stdin(fs::File::open(lines).expect("lines"))
+        .output()
+        .expect("a run");
+    assert_eq!(
+        String::from_utf8_lossy(&output.stdout),
+        "00\n00\n00\n00\n00\n00\n00\n05\n00\n00\n00\n00000100000023\nFF\n04\n"
+    );
+}
+
+/// The room that the header tells callers in C to give is that of the longest line, a show's.
+#[test]
+fn the_room_of_the_header() {
+    let mut line = Vec::new();
+    let shown = Answer::Shown {
+        height: u16::MAX,
+        state: u32::MAX,
+    };
+    shown.print(&mut line);
+    let want = format!("#define SATUPHIR_LINE_SPACE {}\n", line.len());
+    assert!(
+        document("c/satuphir.h").contains(&want),
+        "not there: {want}"
+    );
+}
+
+/// The refusals and the rarer letters that the examples' table names are those of the stored lines.
+#[test]
+fn the_table_of_the_examples() {
+    let readme = document("examples/README.md");
+    let table: Vec<Vec<String>> = rows(&readme)
+        .into_iter()
+        .filter(|row| row[0] != "Example")
+        .collect();
+    assert_eq!(table.len(), common::names().len());
+    for (row, name) in table.iter().zip(common::names()) {
+        assert_eq!(row[0], name);
+        let lines = document(&format!("examples/{name}.out"));
+        let accepted = |line: &&str| line.starts_with("00");
+        let refused: BTreeSet<&str> = lines.lines().filter(|line| !accepted(line)).collect();
+        // An empty cell leaves its rule behind.
+        let named = row.get(2).map_or("", |cell| cell.as_str());
+        assert_eq!(
+            named.split_whitespace().collect::<BTreeSet<_>>(),
+            refused,
+            "{name}"
+        );
+        let letters = lines
+            .lines()
+            .filter(accepted)
+            .filter_map(|line| line.chars().last());
+        let rare: BTreeSet<char> = letters.filter(|letter| !"CGHJ".contains(*letter)).collect();
+        let rare: Vec<String> = rare.iter().map(char::to_string).collect();
+        let told = match rare.len() {
+            0 => continue,
+            6 => format!("all ten in {}", &name[..2]),
+            _ => format!("{} in {}", joined(&rare), &name[..2]),
+        };
+        assert!(flowing("examples/README.md").contains(&told), "{told}");
     }
 }
 
