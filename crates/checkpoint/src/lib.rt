@@ -19,6 +19,7 @@ use memory::LOG;
 use memory::MEMORY;
 use memory::TABLE;
 use protocol::Answer;
+use protocol::Rule;
 use store::COPY;
 use store::LIVE;
 use store::NOTELIST;
@@ -148,5 +149,5 @@ pub fn checkpoint(s: &mut [u64], p: u8) -> Answer
     hold(s, p);
     let l = limits(s, p);
     clean(s, &l);
-    Answer::Accepted
+    Answer::Accepted(Rule::Other)
 }

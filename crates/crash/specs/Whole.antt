@@ -1,16 +1,16 @@
 -- The parts of a crash, put together, are the definition's; and what the frame leaves.
 use Rattle.lists.specs.Basics.{_≡_, refl, ap, _∙_, Bool, true, false, List, ℕ, _+_, _<_, arith, length, set}
 use Rattle.lists.specs.{Lists.keep, Questions.{first-no, put-all}}
-use Rattle.protocol.specs.{declared.Answer.the-variants.{Accepted, Lost}, Parts.State, Setters.{with-lost, with-live, with-copies, with-wire}}
+use Rattle.protocol.specs.{declared.Rule.the-variants.Other, declared.Answer.the-variants.{Accepted, Lost}, Parts.State, Setters.{with-lost, with-live, with-copies, with-wire}}
 use Rattle.protocol.specs.{Crash.{has-cover, survives, crash}, Questions.crash-questions, Step.{Outcome, judged}}
 use Rattle.words.specs.Part.{part, put}
 use Rattle.head.specs.{Head.{HEAD, STATUS, LOST, job-of, as-status}, Kept.head-part}
 use Rattle.packets.specs.Words.{packets}
-use Rattle.store.specs.{Places.{STORE, WIRE, PACKETS}, View.{view, outcome, tried, Framed}, ViewLaws.{wire-put, status-set, lost-set}, Framing.{answered, accepted}}
+use Rattle.store.specs.{Places.{STORE, WIRE, PACKETS}, View.{view, outcome, done, tried, Framed}, ViewLaws.{wire-put, status-set, lost-set}, Framing.{answered, accepted}}
 
 -- with cover, or without; machines settle later
 unfoldable pub crash-tried : State → ℕ → Bool → Outcome
-crash-tried s p true = record { state = crash s p; answer = Accepted }
+crash-tried s p true = done Other (crash s p)
 crash-tried s p false = record { state = with-lost s true; answer = Lost }
 
 -- the wire: h is the head
@@ -34,7 +34,7 @@ module _ (xs : List ℕ) (p n : ℕ) (e : n ≡ first-no (crash-questions (view 
   abbrev the-outcome : Outcome
   the-outcome = judged (view xs) (put-all (crash-questions (view xs) p) (crash-tried (view xs) p (has-cover (view xs) p)))
 
-  pub covered : b ≡ true → (ys : List ℕ) → view ys ≡ crash (view xs) p → Framed xs ys Accepted the-outcome
+  pub covered : b ≡ true → (ys : List ℕ) → view ys ≡ crash (view xs) p → Framed xs ys (Accepted Other) the-outcome
   unfolding tried crash-tried crash-questions
   covered c ys q = rw (← is-b, c) (accepted xs _ n e refl ys (crash (view xs) p) z q)
 

@@ -15,6 +15,7 @@ use head::LOST;
 use head::STATUS;
 use memory::MEMORY;
 use protocol::Answer;
+use protocol::Rule;
 use protocol::Status;
 use store::COPY;
 use store::LIVE;
@@ -153,5 +154,5 @@ pub fn crash(s: &mut [u64], p: u8) -> Answer
         return Answer::Lost;
     }
     go_down(s, p);
-    Answer::Accepted
+    Answer::Accepted(Rule::Other)
 }

@@ -2,20 +2,24 @@
 use Rattle.lists.specs.Basics.{_≡_, refl, _∙_, List, [], Option, some, none, ℕ, zero, suc, _<_, arith}
 use Rattle.lists.specs.Questions.{Question, Result, ok, refuse, put-all}
 use Rattle.arrays.specs.Front.{push}
-use Rattle.protocol.specs.{declared.Content.Content, declared.Packet.Packet, Parts.{Memory, wire-room}}
+use Rattle.protocol.specs.{declared.Content.Content, declared.Rule.the-variants.Other, declared.Packet.Packet, Parts.{Memory, wire-room}}
 use Rattle.words.specs.{Rows.without, Becomes.Becomes}
 use Rattle.packets.specs.Words.{fitted, packets}
 use Rattle.memory.specs.View.{memory-view}
-use Rattle.deliver.specs.{declared.arrive.Reply.Reply, declared.arrive.Reply.the-variants.{Nothing, Send}, declared.arrive.Arrived.Arrived}
+use Rattle.deliver.specs.{declared.arrive.Reply.Reply, declared.arrive.Reply.the-variants.{Nothing, Send}, declared.arrive.Done.Done, declared.arrive.Arrived.Arrived}
 use Rattle.deliver.specs.Effect.{Effect, effect, effect-questions}
 
 unfoldable pub reply-of : Reply → Option Content
 reply-of Nothing = none
 reply-of (Send c) = some c
 
--- the memory after a packet, and the reply
-unfoldable pub effect-of : List ℕ → Reply → Effect
-effect-of ws r = record { memory = memory-view ws; reply = reply-of r }
+-- the memory after a packet, the rule used and the reply
+unfoldable pub effect-of : List ℕ → Done → Effect
+effect-of ws d = record { memory = memory-view ws; rule = d .rule; reply = reply-of (d .reply) }
+
+-- what stands beside a refusal
+abbrev pub nothing : Done
+nothing = record { rule = Other; reply = Nothing }
 
 -- The wire with an answer under the packet's own name, where there is room.
 unfoldable pub answered : List Packet → Packet → Reply → List Packet
@@ -49,10 +53,10 @@ pub record Asked {X : Type 0} (questions : List Question) (next x : X) (before a
   pub gives : by-number refusal x ≡ put-all questions next
   pub stays : (refusal ≡ 0 → ⊥) → after ≡ before
 
--- The same of a packet at a memory; a refusal has no reply.
+-- The same of a packet at a memory; a refusal has no rule and no reply.
 pub record Arriving (questions : List Question) (e : Effect) (before after : List ℕ) (r : Arrived) : Type 0 where
-  pub asked : Asked questions e (effect-of after (r .reply)) before after (r .refusal)
-  pub silent : (r .refusal ≡ 0 → ⊥) → r .reply ≡ Nothing
+  pub asked : Asked questions e (effect-of after (r .done)) before after (r .refusal)
+  pub silent : (r .refusal ≡ 0 → ⊥) → r .done ≡ nothing
 
 module _ {X : Type 0} {questions : List Question} {next x : X} {before after : List ℕ} (n : ℕ) where
   pub passes : n ≡ 0 → ok x ≡ put-all questions next → Asked questions next x before after n
@@ -62,14 +66,14 @@ module _ {X : Type 0} {questions : List Question} {next x : X} {before after : L
   stops h q s = record { gives = by-refused n x h ∙ q; stays = λ _. s }
 
 module _ {questions : List Question} {e : Effect} (before after : List ℕ) (r : Arrived) where
-  pub replying : (y : Reply) → (r .refusal ≡ 0) × (r .reply ≡ y) → ok (effect-of after y) ≡ put-all questions e → Arriving questions e before after r
+  pub replying : (y : Done) → (r .refusal ≡ 0) × (r .done ≡ y) → ok (effect-of after y) ≡ put-all questions e → Arriving questions e before after r
   replying y p q = record { asked = passes (r .refusal) (p .0) (rw (p .1) q); silent = λ h. absurd (h (p .0)) }
 
-  pub refusing : (n : ℕ) → 0 < n → (r .refusal ≡ n) × (r .reply ≡ Nothing) → refuse n ≡ put-all questions e → after ≡ before → Arriving questions e before after r
+  pub refusing : (n : ℕ) → 0 < n → (r .refusal ≡ n) × (r .done ≡ nothing) → refuse n ≡ put-all questions e → after ≡ before → Arriving questions e before after r
   refusing n h p q s = record { asked = stops (r .refusal) (λ z. let w = p .0 in omega arith) (rw (p .0) q) s; silent = λ _. p .1 }
 
 -- a packet of the content c, to which no question is put
-pub did : (m : Memory) (p : Packet) {c d : Content} → d ≡ c → (before after : List ℕ) (r : Arrived) (y : Reply) → effect-questions m p c ≡ []
-    → (r .refusal ≡ 0) × (r .reply ≡ y) → effect-of after y ≡ effect m p c → Arriving (effect-questions m p d) (effect m p d) before after r
+pub did : (m : Memory) (p : Packet) {c d : Content} → d ≡ c → (before after : List ℕ) (r : Arrived) (y : Done) → effect-questions m p c ≡ []
+    → (r .refusal ≡ 0) × (r .done ≡ y) → effect-of after y ≡ effect m p c → Arriving (effect-questions m p d) (effect m p d) before after r
 unfolding put-all
 did m p is-c before after r y q h e = rw is-c (replying before after r y h (rw (q, e)))

@@ -8,7 +8,7 @@ ghost use Rattle.packets.specs.Fits.{Fits};
 ghost use Rattle.memory.specs.Places.{MEMORY};
 ghost use Rattle.memory.specs.View.{memory-view};
 ghost use Rattle.deliver.specs.Effect.{grant-of, ask-questions, ask-effect, grant-old-effect, grant-received-effect, grant-new-effect, data-effect, ack-effect, effect, effect-questions};
-ghost use Rattle.deliver.specs.View.{effect-of, Arriving};
+ghost use Rattle.deliver.specs.View.{nothing, effect-of, Arriving};
 use memory::LOG;
 use memory::MEMORY;
 use memory::TABLE;
@@ -16,6 +16,7 @@ use protocol::Content;
 use protocol::Entry;
 use protocol::Lookup;
 use protocol::Packet;
+use protocol::Rule;
 use tickets::FoundEntry;
 
 // What goes back under the packet's own name.
@@ -24,25 +25,34 @@ pub enum Reply {
     Send(Content),
 }
 
-// What a packet leaves beside the memory. The refusal is 0 if there is none; else the memory is as before.
-pub struct Arrived {
-    pub refusal: u8,
+// What a packet leaves beside the memory, by the rule used.
+pub struct Done {
+    pub rule: Rule,
     pub reply: Reply,
 }
 
+// The refusal is 0 if there is none; else the memory is as before.
+pub struct Arrived {
+    pub refusal: u8,
+    pub done: Done,
+}
+
 fn refused(n: u8) -> Arrived
-    ensures { λ r. ⌜ (r .refusal ≡ n) × (r .reply ≡ Reply.Nothing) ⌝ }
+    ensures { λ r. ⌜ (r .refusal ≡ n) × (r .done ≡ nothing) ⌝ }
 {
     Arrived {
         refusal: n,
-        reply: Reply::Nothing,
+        done: Done {
+            rule: Rule::Other,
+            reply: Reply::Nothing,
+        },
     }
 }
 
-fn replied(reply: Reply) -> Arrived
-    ensures { λ r. ⌜ (r .refusal ≡ 0) × (r .reply ≡ reply) ⌝ }
+fn accepted(done: Done) -> Arrived
+    ensures { λ r. ⌜ (r .refusal ≡ 0) × (r .done ≡ done) ⌝ }
 {
-    Arrived { refusal: 0, reply }
+    Arrived { refusal: 0, done }
 }
 
 // The GRANT of an entry found: received or new, as marked.
@@ -65,12 +75,18 @@ fn ask(m: &mut [u64], sender: u8, sn: u16) -> Arrived
         (now (m .entry)) (now (m .exit)) r ⌝ }
 {
     if let FoundEntry::At(e) = tickets::find(&m[TABLE..LOG], sender, sn) {
-        return replied(Reply::Send(grant_of(e)));
+        return accepted(Done {
+            rule: Rule::AskFound,
+            reply: Reply::Send(grant_of(e)),
+        });
     }
     let k = memory::mark(m, sender);
     let w = memory::window(m, sender);
     if window::worked(k, w, sn) {
-        return replied(Reply::Send(Content::GrantOld));
+        return accepted(Done {
+            rule: Rule::AskWorked,
+            reply: Reply::Send(Content::GrantOld),
+        });
     }
     let h = memory::height(m);
     let t = memory::top(m);
@@ -86,68 +102,99 @@ fn ask(m: &mut [u64], sender: u8, sn: u16) -> Arrived
     }
     let n = tn as u16;
     tickets::enter(&mut m[TABLE..LOG], sender, sn, n);
-    replied(Reply::Send(Content::GrantNew(n)))
+    accepted(Done {
+        rule: Rule::AskNew,
+        reply: Reply::Send(Content::GrantNew(n)),
+    })
 }
 
 // GRANT old: the message goes.
-fn grant_old(m: &mut [u64], receiver: u8, sn: u16) -> Reply
+fn grant_old(m: &mut [u64], receiver: u8, sn: u16) -> Done
     requires { ⌜ length (now m) ≡ MEMORY ⌝ }
     ensures { λ r. ⌜ effect-of (now (m .exit)) r ≡ grant-old-effect (memory-view (now (m .entry))) receiver sn ⌝ }
 {
     let Lookup::Unticketed(_) = logs::lookup(&m[LOG..MEMORY], receiver, sn) else {
-        return Reply::Nothing;
+        return Done {
+            rule: Rule::GrantDropped,
+            reply: Reply::Nothing,
+        };
     };
     logs::remove(&mut m[LOG..MEMORY], receiver, sn);
-    Reply::Nothing
+    Done {
+        rule: Rule::GrantOld,
+        reply: Reply::Nothing,
+    }
 }
 
 // GRANT received: the message gets its TN.
-fn grant_received(m: &mut [u64], receiver: u8, sn: u16, tn: u16) -> Reply
+fn grant_received(m: &mut [u64], receiver: u8, sn: u16, tn: u16) -> Done
     requires { ⌜ length (now m) ≡ MEMORY ⌝ }
     ensures { λ r. ⌜ effect-of (now (m .exit)) r ≡ grant-received-effect (memory-view (now (m .entry))) receiver sn tn ⌝ }
 {
     let Lookup::Unticketed(_) = logs::lookup(&m[LOG..MEMORY], receiver, sn) else {
-        return Reply::Nothing;
+        return Done {
+            rule: Rule::GrantDropped,
+            reply: Reply::Nothing,
+        };
     };
     logs::set_ticket(&mut m[LOG..MEMORY], receiver, sn, tn);
-    Reply::Nothing
+    Done {
+        rule: Rule::GrantReceived,
+        reply: Reply::Nothing,
+    }
 }
 
 // GRANT new: the message gets its TN and is sent as DATA.
-fn grant_new(m: &mut [u64], receiver: u8, sn: u16, tn: u16) -> Reply
+fn grant_new(m: &mut [u64], receiver: u8, sn: u16, tn: u16) -> Done
     requires { ⌜ length (now m) ≡ MEMORY ⌝ }
     ensures { λ r. ⌜ effect-of (now (m .exit)) r ≡ grant-new-effect (memory-view (now (m .entry))) receiver sn tn ⌝ }
 {
     let Lookup::Unticketed(x) = logs::lookup(&m[LOG..MEMORY], receiver, sn) else {
-        return Reply::Nothing;
+        return Done {
+            rule: Rule::GrantDropped,
+            reply: Reply::Nothing,
+        };
     };
     logs::set_ticket(&mut m[LOG..MEMORY], receiver, sn, tn);
-    Reply::Send(Content::Data {
-        value: x.value,
-        hops: x.hops,
-    })
+    Done {
+        rule: Rule::GrantNew,
+        reply: Reply::Send(Content::Data {
+            value: x.value,
+            hops: x.hops,
+        }),
+    }
 }
 
 // DATA fills an unreceived entry.
-fn data_in(m: &mut [u64], sender: u8, sn: u16, value: u16, hops: u8) -> Reply
+fn data_in(m: &mut [u64], sender: u8, sn: u16, value: u16, hops: u8) -> Done
     requires { ⌜ length (now m) ≡ MEMORY ⌝ }
     ensures { λ r. ⌜ effect-of (now (m .exit)) r ≡ data-effect (memory-view (now (m .entry))) sender sn value (hops % 8) (entry (memory-view (now (m .entry)) .table) sender sn) ⌝ }
 {
     if let FoundEntry::At(e) = tickets::find(&m[TABLE..LOG], sender, sn) {
         if !e.received {
             tickets::fill(&mut m[TABLE..LOG], sender, sn, value, hops);
+            return Done {
+                rule: Rule::DataFilled,
+                reply: Reply::Nothing,
+            };
         }
     }
-    Reply::Nothing
+    Done {
+        rule: Rule::DataDropped,
+        reply: Reply::Nothing,
+    }
 }
 
 // ACK marks the entry noted.
-fn ack(m: &mut [u64], sender: u8, sn: u16) -> Reply
+fn ack(m: &mut [u64], sender: u8, sn: u16) -> Done
     requires { ⌜ length (now m) ≡ MEMORY ⌝ }
     ensures { λ r. ⌜ effect-of (now (m .exit)) r ≡ ack-effect (memory-view (now (m .entry))) sender sn ⌝ }
 {
     tickets::note(&mut m[TABLE..LOG], sender, sn);
-    Reply::Nothing
+    Done {
+        rule: Rule::Other,
+        reply: Reply::Nothing,
+    }
 }
 
 // What a packet does to the memory of the chare that it goes to. A NOTE goes to a note list, and leaves the memory.
@@ -159,11 +206,14 @@ pub fn arrive(m: &mut [u64], p: Packet) -> Arrived
     let c = p.content;
     match c {
         Content::Ask => ask(m, p.sender, p.sn),
-        Content::GrantOld => replied(grant_old(m, p.receiver, p.sn)),
-        Content::GrantReceived(tn) => replied(grant_received(m, p.receiver, p.sn, tn)),
-        Content::GrantNew(tn) => replied(grant_new(m, p.receiver, p.sn, tn)),
-        Content::Data { value, hops } => replied(data_in(m, p.sender, p.sn, value, hops)),
-        Content::Note(_) => replied(Reply::Nothing),
-        Content::Ack => replied(ack(m, p.sender, p.sn)),
+        Content::GrantOld => accepted(grant_old(m, p.receiver, p.sn)),
+        Content::GrantReceived(tn) => accepted(grant_received(m, p.receiver, p.sn, tn)),
+        Content::GrantNew(tn) => accepted(grant_new(m, p.receiver, p.sn, tn)),
+        Content::Data { value, hops } => accepted(data_in(m, p.sender, p.sn, value, hops)),
+        Content::Note(_) => accepted(Done {
+            rule: Rule::Other,
+            reply: Reply::Nothing,
+        }),
+        Content::Ack => accepted(ack(m, p.sender, p.sn)),
     }
 }

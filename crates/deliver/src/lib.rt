@@ -4,14 +4,15 @@ pub mod arrive;
 ghost use mathlib.Core.Path.{_≡_};
 ghost use Prim.Native.Nat.{_<_, _≤_};
 ghost use lib.ListN.{length};
-ghost use Rattle.lists.specs.Questions.{first-no};
+ghost use Rattle.lists.specs.Questions.{put-all, first-no};
 ghost use Rattle.protocol.specs.Packets.{note-of};
 ghost use Rattle.protocol.specs.Questions.{deliver-questions, on-wire};
+ghost use Rattle.protocol.specs.Step.{judged};
 ghost use Rattle.head.specs.Head.{HEAD, job-of, lost-of, status-of};
 ghost use Rattle.notelist.specs.Notes.{notes};
 ghost use Rattle.packets.specs.Fits.{Fits};
 ghost use Rattle.store.specs.Places.{NOTELIST, PACKETS, STORE};
-ghost use Rattle.store.specs.View.{view, tried, Framed};
+ghost use Rattle.store.specs.View.{view, Framed};
 ghost use Rattle.deliver.specs.NoteEffect.{note-effect, note-questions};
 ghost use Rattle.deliver.specs.View.{Answering, Asked};
 ghost use Rattle.deliver.specs.Frame.{in-range, first-questions, delivered, Waits, chare-outcome, note-outcome};
@@ -22,6 +23,7 @@ use protocol::Answer;
 use protocol::Content;
 use protocol::Note;
 use protocol::Packet;
+use protocol::Rule;
 use store::LIVE;
 use store::NOTELIST;
 use store::NOTES;
@@ -116,7 +118,7 @@ fn deliver_note(s: &mut [u64], at: usize, p: Packet, tn: u16) -> Answer
         return Answer::Refused(no);
     }
     answer(&mut s[WIRE..STORE], at, p, Reply::Send(Content::Ack));
-    Answer::Accepted
+    Answer::Accepted(Rule::Other)
 }
 
 // A GRANT goes to its sender, any other packet to its receiver.
@@ -132,15 +134,17 @@ fn deliver_to(s: &mut [u64], c: u8, at: usize, p: Packet) -> Answer
     if r.refusal != 0 {
         return Answer::Refused(r.refusal);
     }
-    let reply = r.reply;
+    let d = r.done;
+    let reply = d.reply;
     answer(&mut s[WIRE..STORE], at, p, reply);
-    Answer::Accepted
+    let rule = d.rule;
+    Answer::Accepted(rule)
 }
 
 // A delivery refused leaves the packet on the wire; one accepted takes it off before an answer is put on.
 pub fn deliver(s: &mut [u64], kind: u8, sender: u8, receiver: u8, sn: u16) -> Answer
     requires { ⌜ length (now s) ≡ STORE ⌝ }
-    ensures { λ r. ⌜ Framed (now (s .entry)) (now (s .exit)) r (tried (view (now (s .entry))) (deliver-questions (view (now (s .entry))) kind sender receiver sn) (delivered (view (now (s .entry))) kind sender receiver sn (on-wire (view (now (s .entry))) kind sender receiver sn))) ⌝ }
+    ensures { λ r. ⌜ Framed (now (s .entry)) (now (s .exit)) r (judged (view (now (s .entry))) (put-all (deliver-questions (view (now (s .entry))) kind sender receiver sn) (delivered (view (now (s .entry))) kind sender receiver sn (on-wire (view (now (s .entry))) kind sender receiver sn)))) ⌝ }
 {
     let no = judge(s, kind, sender, receiver, sn);
     if no != 0 {

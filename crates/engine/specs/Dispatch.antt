@@ -1,14 +1,14 @@
 -- The frame that the reader answers decides the step: what its crate gives, and then what settles.
 use Rattle.lists.specs.Basics.{_≡_, refl, sym, ap, _∙_, Bool, true, false, Option, some, none, ℕ}
 use Rattle.lists.specs.Questions.{put-all}
-use Rattle.protocol.specs.{declared.Answer.the-variants.{Accepted, Refused}, Parts.State, Frames.{Line, frame}}
+use Rattle.protocol.specs.{declared.Rule.the-variants.Other, declared.Answer.the-variants.Refused, Parts.State, Frames.{Line, frame}}
 use Rattle.protocol.specs.{Job.begin, Sending.send, Working.next-entry, Checkpoint.checkpoint, Crash.has-cover, Restart.restart}
 use Rattle.protocol.specs.Questions.{questions, job-questions, inject-questions, deliver-questions, on-wire, work-questions}
 use Rattle.protocol.specs.Questions.{checkpoint-questions, crash-questions, restart-questions, show-questions}
 use Rattle.protocol.specs.{Step.{Outcome, accept, crash-outcome, deliver-outcome, work-outcome, outcome, judged, play, step-frame, step}}
 use Rattle.frames.specs.{Decode.decoded, Read.{read-as, meaning}, ReadLaws.frame-meaning, declared.Frame.Frame}
 use Rattle.frames.specs.{declared.Frame.the-variants.{Garbled, Job, Inject, Deliver, Work, Checkpoint, Crash, Restart, Show}}
-use Rattle.store.specs.View.{tried}
+use Rattle.store.specs.View.{done, tried}
 use Rattle.settle.specs.Shown.{shown}
 use Rattle.deliver.specs.Frame.{delivered}
 use Rattle.sends.specs.Works.{worked-state}
@@ -20,19 +20,17 @@ unfoldable pub acted : State → Line → Frame → Outcome
 acted s l Garbled = record { state = s; answer = Refused 1 }
 acted s l Job = tried s (job-questions s (decoded l)) (begin (decoded l))
 acted s l (Inject c v h) = tried s (inject-questions s c v h) (send s 0 c v h)
-acted s l (Deliver k a r n) = tried s (deliver-questions s k a r n) (delivered s k a r n (on-wire s k a r n))
+acted s l (Deliver k a r n) = judged s (put-all (deliver-questions s k a r n) (delivered s k a r n (on-wire s k a r n)))
 acted s l (Work c) = tried s (work-questions s c) (worked-state s c (next-entry (s .live c)))
 acted s l (Checkpoint p) = tried s (checkpoint-questions s p) (checkpoint s p)
 acted s l (Crash p) = judged s (put-all (crash-questions s p) (crash-tried s p (has-cover s p)))
 acted s l (Restart p) = tried s (restart-questions s p) (restart s p)
 acted s l (Show c) = judged s (put-all (show-questions s c) (shown s c))
 
--- accepted, whether or not there is something to act on
-accepts : {X : Type 0} (x : Option X → Outcome) (t : Option X → State) → x none ≡ accept (t none) → ((a : X) → x (some a) ≡ accept (t (some a)))
-    → (o : Option X) → x o ≡ settle-after (record { state = t o; answer = Accepted })
-unfolding accept settle-after settles
-accepts x t p q none = p
-accepts x t p q (some a) = q a
+-- whether or not there is something to act on
+either-settles : {X : Type 0} (x t : Option X → Outcome) → x none ≡ settle-after (t none) → ((a : X) → x (some a) ≡ settle-after (t (some a))) → (o : Option X) → x o ≡ settle-after (t o)
+either-settles x t p q none = p
+either-settles x t p q (some a) = q a
 
 module _ (s : State) where
   crash-settles : (p : ℕ) (b : Bool) → crash-outcome s p b ≡ settle-after (crash-tried s p b)
@@ -46,8 +44,8 @@ module _ (s : State) where
   acted-settles l Garbled = refl
   acted-settles l Job = judged-settles s _ _ _ refl
   acted-settles l (Inject c v h) = judged-settles s _ _ _ refl
-  acted-settles l (Deliver k a r n) = judged-settles s _ _ _ (accepts (deliver-outcome s k a r n) (delivered s k a r n) refl (λ p. refl) (on-wire s k a r n))
-  acted-settles l (Work c) = judged-settles s _ _ _ (accepts (work-outcome s c) (worked-state s c) refl (λ e. refl) (next-entry (s .live c)))
+  acted-settles l (Deliver k a r n) = judged-settles s _ _ _ (either-settles (deliver-outcome s k a r n) (delivered s k a r n) refl (λ p. refl) (on-wire s k a r n))
+  acted-settles l (Work c) = judged-settles s _ _ _ (either-settles (work-outcome s c) (λ o. done Other (worked-state s c o)) refl (λ e. refl) (next-entry (s .live c)))
   acted-settles l (Checkpoint p) = judged-settles s _ _ _ refl
   acted-settles l (Crash p) = judged-settles s _ _ _ (crash-settles p (has-cover s p))
   acted-settles l (Restart p) = judged-settles s _ _ _ refl

@@ -5,7 +5,7 @@ use Rattle.protocol.specs.{declared.Answer.Answer, declared.Answer.the-variants
 
 -- whoever is done catching up after an accepted frame is done
 unfoldable pub settles : Answer → Bool
-settles Accepted = true
+settles (Accepted r) = true
 settles (Shown h s) = true
 settles Lost = false
 settles (Refused n) = false

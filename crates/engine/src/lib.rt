@@ -39,7 +39,7 @@ fn is_accepted(a: Answer) -> bool
     ensures { λ r. ⌜ r ≡ settles a ⌝ }
 {
     match a {
-        Answer::Accepted => true,
+        Answer::Accepted(_) => true,
         Answer::Shown {
             height: _,
             state: _,

@@ -1,10 +1,11 @@
 // The line that an answer prints, with its newline.
 ghost use mathlib.Core.Path.{_≡_};
 ghost use mathlib.Core.List.{[], _∷_, _++_};
-ghost use Prim.Native.Nat.{_%_};
+ghost use Prim.Native.Nat.{_≤_, _%_};
 ghost use lib.ListN.{take};
-ghost use Rattle.protocol.specs.Lines.{newline, printed-digit, line};
+ghost use Rattle.protocol.specs.Lines.{newline, printed-digit, letter, line};
 use protocol::Answer;
+use protocol::Rule;
 
 pub struct Printed {
     pub len: u8,
@@ -19,16 +20,35 @@ fn digit(n: u32) -> u8
     if d < 10 { 48 + d } else { 55 + d }
 }
 
+// The letter of a rule.
+fn letter(r: Rule) -> u8
+    ensures { λ b. ⌜ b ≡ letter r ⌝ }
+{
+    match r {
+        Rule::AskFound => 65,
+        Rule::AskWorked => 66,
+        Rule::AskNew => 67,
+        Rule::GrantDropped => 68,
+        Rule::GrantOld => 69,
+        Rule::GrantReceived => 70,
+        Rule::GrantNew => 71,
+        Rule::DataFilled => 72,
+        Rule::DataDropped => 73,
+        Rule::Other => 74,
+    }
+}
+
 pub fn print(a: Answer) -> Printed
-    ensures { λ r. ⌜ take (r .len) (r .bytes) ≡ line a ++ (newline ∷ []) ⌝ }
+    ensures { λ r. ⌜ (r .len ≤ 16) × (take (r .len) (r .bytes) ≡ line a ++ (newline ∷ [])) ⌝ }
 {
     let mut b = [0u8; 16];
     match a {
-        Answer::Accepted => {
+        Answer::Accepted(r) => {
             b[0] = 48;
             b[1] = 48;
-            b[2] = 10;
-            Printed { len: 3, bytes: b }
+            b[2] = letter(r);
+            b[3] = 10;
+            Printed { len: 4, bytes: b }
         }
         Answer::Lost => {
             b[0] = 70;
@@ -58,8 +78,9 @@ pub fn print(a: Answer) -> Printed
             b[11] = digit(state / 16 / 16);
             b[12] = digit(state / 16);
             b[13] = digit(state);
-            b[14] = 10;
-            Printed { len: 15, bytes: b }
+            b[14] = letter(Rule::Other);
+            b[15] = 10;
+            Printed { len: 16, bytes: b }
         }
     }
 }

@@ -27,6 +27,7 @@ use head::SET;
 use memory::MEMORY;
 use memory::STATE;
 use protocol::Answer;
+use protocol::Rule;
 use store::COPY;
 use store::LIVE;
 
@@ -154,5 +155,5 @@ pub fn job(s: &mut [u64], line: &[u8]) -> Answer
         return Answer::Refused(4);
     }
     begin(s, line);
-    Answer::Accepted
+    Answer::Accepted(Rule::Other)
 }

@@ -53,7 +53,7 @@ recorded s y (show c) = y
 
 -- "A frame is accepted if its line begins with 00."
 unfoldable pub is-accepted : Answer → Bool
-is-accepted Accepted = true
+is-accepted (Accepted r) = true
 is-accepted (Shown height state) = true
 is-accepted Lost = false
 is-accepted (Refused n) = false

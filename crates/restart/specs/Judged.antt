@@ -1,9 +1,9 @@
 -- A restart judged: the questions in order.
 use Rattle.lists.specs.Basics.{_≡_, refl, sym, ap, _∙_, not, List, [], _∷_, _≢_, ℕ}
 use Rattle.lists.specs.Questions.{Question, _asks_, put-all, put-no, put-after, first-no, first-no-yes}
-use Rattle.protocol.specs.{declared.Answer.the-variants.{Accepted, Refused}, Parts.{State, is-down}, Restart.restart}
+use Rattle.protocol.specs.{declared.Rule.the-variants.Other, declared.Answer.the-variants.Refused, Parts.{State, is-down}, Restart.restart}
 use Rattle.protocol.specs.{Questions.{restart-questions, is-machine, tables-fit, wire-fits}, Step.{Outcome, judged}}
-use Rattle.store.specs.View.{tried}
+use Rattle.store.specs.View.{done, tried}
 
 -- the questions 2 to 5, and those behind them
 unfoldable pub asked : State → ℕ → List Question
@@ -14,7 +14,7 @@ module _ (s : State) (p n : ℕ) (e : n ≡ first-no (asked s p)) where
   rest = 10 asks tables-fit s p ∷ 11 asks wire-fits (restart s p) ∷ []
 
   abbrev end : Outcome
-  end = record { state = restart s p; answer = Accepted }
+  end = done Other (restart s p)
 
   pub early : n ≢ 0 → tried s (restart-questions s p) (restart s p) ≡ record { state = s; answer = Refused n }
   unfolding tried restart-questions judged asked

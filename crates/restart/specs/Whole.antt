@@ -1,7 +1,7 @@
 -- A restart put together: the tables in rows, the wire beside the store, and the store changed by both.
 use Rattle.lists.specs.Basics.{_≡_, refl, sym, _∙_, fun-ext, Bool, true, false, not, List, _≢_, ℕ, _≤_, arith, eqb, length}
 use Rattle.lists.specs.{Tests.either, Lists.{keep, gather}, Map.upd, Questions.{put-all, first-no}}
-use Rattle.protocol.specs.{declared.Answer.the-variants.{Accepted, Refused}, declared.Packet.Packet, declared.Status.the-variants.CatchingUp}
+use Rattle.protocol.specs.{declared.Rule.the-variants.Other, declared.Answer.the-variants.{Accepted, Refused}, declared.Packet.Packet, declared.Status.the-variants.CatchingUp}
 use Rattle.protocol.specs.{Parts.{State, on, at-home, every-sender, is-down}, Setters.{with-status, with-live, with-wire}, Packets.goes-to}
 use Rattle.protocol.specs.Restart.{restart, restore, restored, target-of}
 use Rattle.protocol.specs.{Questions.{restart-questions, is-machine, wire-fits}, Step.judged}
@@ -60,7 +60,7 @@ module _ (xs : List ℕ) (size : length xs ≡ STORE) (p n : ℕ) (e : n ≡ fir
         unfolding judged put-all
         refuse-wire g = refuses xs 11 (late (view xs) p n e z ∙ rw (sym (built .fits) ∙ f, sym (limited .0) ∙ g))
 
-        pub accept : y ≡ true → (out : List ℕ) → view out ≡ back (view xs) p rows (packets d) → Framed xs out Accepted (tried (view xs) (restart-questions (view xs) p) (restart (view xs) p))
+        pub accept : y ≡ true → (out : List ℕ) → view out ≡ back (view xs) p rows (packets d) → Framed xs out (Accepted Other) (tried (view xs) (restart-questions (view xs) p) (restart (view xs) p))
         unfolding outcome judged put-all
         accept g out q =
             let same-state = q ∙ back-restart (view xs) p rows same (packets d) (limited .1 g) in

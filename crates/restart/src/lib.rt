@@ -22,6 +22,7 @@ use back::tables;
 use head::STATUS;
 use over::copy_over;
 use protocol::Answer;
+use protocol::Rule;
 use protocol::Status;
 use resend::resend_all;
 use store::STORE;
@@ -81,5 +82,5 @@ pub fn restart(s: &mut [u64], p: u8) -> Answer
         return Answer::Refused(11);
     }
     change(s, p, &rows, &wire);
-    Answer::Accepted
+    Answer::Accepted(Rule::Other)
 }

@@ -2,7 +2,7 @@
 ghost use Rattle.satuphir.specs.Entry.{Entered};
 
 // Writes the answers to a whole input into the buffer and returns how many bytes they are. Where the buffer has no room for all of
-// them it returns the largest number, and the buffer begins with the answers to the lines that were taken; 15 bytes a line are enough.
+// them it returns the largest number, and the buffer begins with the answers to the lines that were taken; 16 bytes a line are enough.
 #[no_mangle]
 pub extern "C" fn satuphir_transcript(input: &[u8], out: &mut [u8]) -> usize
     ensures { λ r. ⌜ Entered (now (input .entry)) (now (out .entry)) r (now (out .exit)) ⌝ }

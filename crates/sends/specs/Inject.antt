@@ -1,7 +1,7 @@
 -- Frame 10: the desk's message. From 7 on its questions are those of one send.
 use Rattle.lists.specs.Basics.{_≡_, refl, sym, _∙_, Bool, true, false, not, _&&_, and-true, List, [], _∷_, _++_, ℕ, _<_, arith, leb-true, leb}
 use Rattle.lists.specs.{Questions.{Question, _asks_, first-no, first-no-yes}, Tests.{and-l, and-r}}
-use Rattle.protocol.specs.{declared.Answer.the-variants.{Accepted, Refused}, Parts.State, Step.Outcome}
+use Rattle.protocol.specs.{declared.Rule.the-variants.Other, declared.Answer.the-variants.{Accepted, Refused}, Parts.State, Step.Outcome}
 use Rattle.protocol.specs.{Questions.{inject-questions, is-chare, put-to-all}, Sending.{send, send-all}}
 use Rattle.store.specs.{View.{view, tried, Framed}, Framing.{refuses as refused, accepts as accepted}}
 use Rattle.sends.specs.{Made.{Made, sends-made, sends-refused}, Sends.{sends-questions, tried-sends}, Verdict.{stopped, passed}, Reading.chare-in}
@@ -52,5 +52,5 @@ module _ (xs : List ℕ) (c v h n : ℕ) (n-is : n ≡ first-no (desk-questions 
       pub not-sent : (k ≡ 0 → ⊥) → Framed xs ys (Refused k) injected
       not-sent f = rw (m .stays f) (refused xs k (asked ∙ sends-refused (view xs) m f))
 
-      pub is-sent : k ≡ 0 → Framed xs ys Accepted injected
+      pub is-sent : k ≡ 0 → Framed xs ys (Accepted Other) injected
       is-sent e = accepted xs ys (asked ∙ sends-made (view xs) m e)

@@ -1,7 +1,7 @@
 -- The sends of a chare, judged and made where the store stands.
 use Rattle.lists.specs.Basics.{_≡_, refl, sym, ap, _∙_, List, [], _∷_, _++_, ℕ, ne-eqb, le-leb, length}
 use Rattle.lists.specs.Questions.{Yes, yes-put, put-first, first-no, first-no-yes}
-use Rattle.protocol.specs.{declared.Answer.the-variants.{Accepted, Refused}, Parts.{State, Job}, Sending.{send, send-all}, Work.{receivers, ports, port}}
+use Rattle.protocol.specs.{declared.Rule.the-variants.Other, declared.Answer.the-variants.{Accepted, Refused}, Parts.{State, Job}, Sending.{send, send-all}, Work.{receivers, ports, port}}
 use Rattle.protocol.specs.{Questions.{put-to-all, wire-fits}, Step.judged}
 use Rattle.store.specs.{Places.STORE, View.{view, outcome}}
 use Rattle.sends.specs.{declared.plan.Plan.Plan, Plan.{plan-of, plan-after}, Reading.wire-top, Ticket.message-after, Stored.to-sent, SecondLaws.after-first}
@@ -55,7 +55,7 @@ by-ports j c hops b d f b-is d-is = rw (ne-eqb hops 0 f, b-is, d-is)
 
 -- ---- what a frame then answers: s is the state before it, ws the store where its sends were judged
 module _ (s : State) {ws ys : List ℕ} {a : ℕ} {l : List ℕ} {v h n : ℕ} (m : Made ws ys a l v h n) where
-  pub sends-made : n ≡ 0 → tried-sends s (view ws) a l v h ≡ outcome ys Accepted
+  pub sends-made : n ≡ 0 → tried-sends s (view ws) a l v h ≡ outcome ys (Accepted Other)
   unfolding outcome tried-sends judged sends-questions
   sends-made z = ap (judged s) (yes-put (sends-questions (view ws) a l v h) _ (first-no-yes (sends-questions (view ws) a l v h) refl (sym (m .said) ∙ z))) ∙ rw (m .made z)
 

@@ -2,8 +2,9 @@
 use Rattle.lists.specs.Basics.{_≡_, refl, subst, _∙_, Bool, true, false, _&&_, and-true, and-false, List, [], _∷_, ℕ, _+_, arith, add-one, length}
 use Rattle.lists.specs.Basics.{ltb-true, ltb-false, lt-leb, le-leb, lt-ltb, ltb, leb}
 use Rattle.lists.specs.{Tests.{either, and-l, and-r}, Questions.{Question, _asks_, put-all, first-no}}
-use Rattle.protocol.specs.{declared.Answer.the-variants.Accepted, Parts.State, Sending.{send, send-all}}
+use Rattle.protocol.specs.{declared.Rule.the-variants.Other, Parts.State, Sending.{send, send-all}}
 use Rattle.protocol.specs.{Questions.{numbers-fit, window-admits, log-has-room, table-has-room, wire-fits, put-to-all}, Step.{Outcome, judged}}
+use Rattle.store.specs.View.{done}
 use Rattle.sends.specs.{declared.plan.Plan.Plan, Ticket.{fits, growth, message-after}, Plan.{plan-of, plan-after}, PlanLaws.{Judges, judges}}
 use Rattle.sends.specs.{Sent.{sent-by, ticketed-by, wire-grown, log-after}, SecondLaws.after-first}
 
@@ -18,7 +19,7 @@ sends-questions s a l v h =
 
 -- the sends made in w, or s as it was
 unfoldable pub tried-sends : State → State → ℕ → List ℕ → ℕ → ℕ → Outcome
-tried-sends s w a l v h = judged s (put-all (sends-questions w a l v h) (record { state = send-all w a l v h; answer = Accepted }))
+tried-sends s w a l v h = judged s (put-all (sends-questions w a l v h) (done Other (send-all w a l v h)))
 
 -- the first "no" of 7 to 11 by the plans, from the lengths of the sender's log and of the wire
 unfoldable pub one-verdict : Plan → ℕ → ℕ → ℕ

@@ -1,7 +1,7 @@
 -- An entry worked where the store stands: the four words written, the sends made; or the four words written back.
 use Rattle.lists.specs.Basics.{_≡_, sym, ap, _∙_, List, some, ℕ, _-_, _+_, _%_, _<_, _≤_, arith, length}
 use Rattle.lists.specs.Questions.{first-no}
-use Rattle.protocol.specs.{declared.Answer.the-variants.{Accepted, Refused}, declared.Entry.Entry, Parts.Memory, Setters.with-memory, Work.{ports, receivers, sent-value}}
+use Rattle.protocol.specs.{declared.Rule.the-variants.Other, declared.Answer.the-variants.{Accepted, Refused}, declared.Entry.Entry, Parts.Memory, Setters.with-memory, Work.{ports, receivers, sent-value}}
 use Rattle.protocol.specs.{Working.{work-entry, worked-only, receivers-of, value-out, hops-out}}
 use Rattle.words.specs.Part.{part, put, part-length, part-put, put-again, put-same}
 use Rattle.memory.specs.{declared.Numbers.Numbers, Places.MEMORY, Numbers.{taken, given, with-numbers, give-back, numbers-given}, View.memory-view}
@@ -48,7 +48,7 @@ module _ (xs : List ℕ) (size : length xs ≡ STORE) (c : ℕ) (c-in : c < 13) 
           let value-is : v ≡ sent-value (work-entry (view xs .live c) e .state) = v-is ∙ ap (λ (m : Memory). m .state % 65536) worked-is in
           own-passed (view xs) c e (sym answered ∙ yes) ∙ rw (value-is, works)
 
-      pub all-sent : n ≡ 0 → Framed xs zs Accepted (tried-work (view xs) c (some e))
+      pub all-sent : n ≡ 0 → Framed xs zs (Accepted Other) (tried-work (view xs) c (some e))
       all-sent z = accepted xs zs (passed ∙ sends-made (view xs) m z)
 
       -- us is the memory with the old words again

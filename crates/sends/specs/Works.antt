@@ -1,9 +1,10 @@
 -- Frame 12: what working the next TN leaves, and its questions in three parts.
 use Rattle.lists.specs.Basics.{_≡_, refl, ap, _∙_, Bool, true, false, _&&_, List, [], _∷_, _++_, Option, some, none, ℕ, _+_, leb}
 use Rattle.lists.specs.Questions.{Question, _asks_, put-all, first-no}
-use Rattle.protocol.specs.{declared.Entry.Entry, declared.Answer.the-variants.{Accepted, Refused}, Working.{worked-only, work-next, value-out, hops-out, receivers-of}}
+use Rattle.protocol.specs.{declared.Entry.Entry, declared.Rule.the-variants.Other, declared.Answer.the-variants.Refused, Working.{worked-only, work-next, value-out, hops-out, receivers-of}}
 use Rattle.protocol.specs.{Parts.{State, Memory}, Questions.{mark-after, entry-questions, put-to-sends}, Step.{Outcome, judged}}
 use Rattle.head.specs.Head.{chare-asked}
+use Rattle.store.specs.View.{done}
 use Rattle.sends.specs.{Sends.{sends-questions, tried-sends}, Verdict.{stopped, passed}}
 
 -- the state after a work: with no next entry it stays
@@ -17,7 +18,7 @@ chare-questions s c = chare-asked (s .job) (s .lost) (s .status) c
 
 -- 6 to 11
 unfoldable pub tried-work : State → ℕ → Option Entry → Outcome
-tried-work s c o = judged s (put-all (entry-questions s c o) (record { state = worked-state s c o; answer = Accepted }))
+tried-work s c o = judged s (put-all (entry-questions s c o) (done Other (worked-state s c o)))
 
 -- 6, and 7 of the chare that works
 unfoldable pub own-questions : Memory → Entry → List Question
@@ -39,7 +40,7 @@ module _ (s : State) (c : ℕ) (e : Entry) where
   abbrev others : List Question
   others = sends-questions (worked-only s c e) c (receivers-of s c e) (value-out s c e) (hops-out e)
 
-  asked : tried-work s c (some e) ≡ judged s (put-all (own ++ others) (record { state = work-next s c e; answer = Accepted }))
+  asked : tried-work s c (some e) ≡ judged s (put-all (own ++ others) (done Other (work-next s c e)))
   unfolding tried-work entry-questions own-questions worked-state work-next put-to-sends sends-questions
   asked = ap (judged s) (in-parts (e .received && e .noted) (leb (s .live c .height + 1) 60000) (leb (mark-after (s .live c) e) 60000) _ _ _)
 

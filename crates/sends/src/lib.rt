@@ -38,6 +38,7 @@ use plan::plan_after;
 use plan::plan_of;
 use protocol::Answer;
 use protocol::Entry;
+use protocol::Rule;
 use store::LIVE;
 use store::STORE;
 use store::WIRE;
@@ -179,7 +180,7 @@ fn work_at(s: &mut [u64], c: u8, e: Entry) -> Answer
         memory::give(&mut s[a..z], e.sender, old);
         return Answer::Refused(n);
     }
-    Answer::Accepted
+    Answer::Accepted(Rule::Other)
 }
 
 // The entry of the TN after the height.
@@ -233,5 +234,5 @@ pub fn inject(s: &mut [u64], chare: u8, value: u16, hops: u8) -> Answer
     if n != 0 {
         return Answer::Refused(n);
     }
-    Answer::Accepted
+    Answer::Accepted(Rule::Other)
 }

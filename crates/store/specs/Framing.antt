@@ -1,7 +1,7 @@
 -- A frame's questions: the number of the first that is answered "no" decides.
 use Rattle.lists.specs.Basics.{_≡_, refl, sym, _∙_, Bool, true, _≢_, List, [], _∷_, ℕ, _≤_, arith}
 use Rattle.lists.specs.Questions.{Question, _asks_, numbered, put-all, yes-put, first-no, first-no-yes, put-first}
-use Rattle.protocol.specs.{declared.Answer.Answer, declared.Answer.the-variants.{Accepted, Refused}, Frames.between, Parts.State, Step.{Outcome, judged}}
+use Rattle.protocol.specs.{declared.Rule.Rule, declared.Rule.the-variants.Other, declared.Answer.Answer, declared.Answer.the-variants.{Accepted, Refused}, Frames.between, Parts.State, Step.{Outcome, judged}}
 use Rattle.frames.specs.Range.{between-true}
 use Rattle.head.specs.{Head.job-of, HeadLaws.machines-top}
 use Rattle.store.specs.View.{view, outcome, tried, Framed}
@@ -11,7 +11,7 @@ pub refuses : (xs : List ℕ) (n : ℕ) {o : Outcome} → o ≡ record { state =
 unfolding outcome
 refuses xs n e = record { gives = sym e; stays = λ _ _. refl }
 
-pub accepts : (xs ys : List ℕ) {o : Outcome} → o ≡ outcome ys Accepted → Framed xs ys Accepted o
+pub accepts : (xs ys : List ℕ) {r : Rule} {o : Outcome} → o ≡ outcome ys (Accepted r) → Framed xs ys (Accepted r) o
 accepts xs ys e = record { gives = sym e; stays = λ n q. absurd (let z : _≡_ {A = ℕ} 0 1 = cc in omega arith) }
 
 -- ---- by the questions: n is what the code finds
@@ -24,9 +24,9 @@ module _ (xs : List ℕ) (l : List Question) (n : ℕ) (e : n ≡ first-no l) wh
   unfolding judged
   answered k ys a o d h q = record { gives = rw (yes-put l o (first-no-yes l k (sym e ∙ h))) q; stays = λ m z. absurd (d m z) }
 
-  pub accepted : numbered l ≡ true → (ys : List ℕ) (s : State) → n ≡ 0 → view ys ≡ s → Framed xs ys Accepted (tried (view xs) l s)
+  pub accepted : numbered l ≡ true → (ys : List ℕ) (s : State) → n ≡ 0 → view ys ≡ s → Framed xs ys (Accepted Other) (tried (view xs) l s)
   unfolding outcome tried
-  accepted k ys s h q = answered k ys Accepted _ (λ m z. absurd (let y : _≡_ {A = ℕ} 0 1 = cc in omega arith)) h (rw q)
+  accepted k ys s h q = answered k ys (Accepted Other) _ (λ m z. absurd (let y : _≡_ {A = ℕ} 0 1 = cc in omega arith)) h (rw q)
 
 -- a machine that passed is one of six
 pub machine-in : (xs : List ℕ) (p n : ℕ) (a b c d : Bool) → n ≡ first-no (2 asks a ∷ 3 asks b ∷ 4 asks c ∷ 5 asks d ∷ []) → b ≡ between 1 (job-of xs .machines) p → n ≡ 0 → (1 ≤ p) × (p ≤ 6)

@@ -78,7 +78,7 @@ module _ (s : State) (l : Line) (b : ℕ) where
   goes-on-silent e = rw e
 
 -- ---- the whole: what is printed on the way and at the end
-transcribes : (s : State) (l : Line) (i : List ℕ) → output (within s l) i ++ last-output (read-all (within s l) i) ≡ print (answers-from s (continued l (lines i)))
+transcribes : (s : State) (l : Line) (i : List ℕ) → output (within s l) i ++ last-output (read-all (within s l) i) ≡ print line (answers-from s (continued l (lines i)))
 unfolding output read-all answers-from print printed
 transcribes s l [] = unfold last-output continued lines in rw (ends-output s l newline refl, kept-empty s l) (either (is-empty l) (λ e. rw e) (λ e. rw e))
 transcribes s l (b ∷ i) =

@@ -1,6 +1,6 @@
--- An answer's line with its newline has at most 15 bytes.
+-- An answer's line with its newline has at most 16 bytes.
 use Rattle.lists.specs.Basics.{List, [], _∷_, _++_, _≡_, refl, ap, _∙_, ℕ, zero, suc, _+_, _≤_, _/_, arith, length, take, drop, length-append, length-take}
-use Rattle.protocol.specs.{declared.Answer.Answer, declared.Answer.the-variants.{Accepted, Shown, Lost, Refused}, Lines.{newline, hexadecimal, two-decimals, line}}
+use Rattle.protocol.specs.{declared.Rule.the-variants.Other, declared.Answer.Answer, declared.Answer.the-variants.{Accepted, Shown, Lost, Refused}, Lines.{newline, hexadecimal, two-decimals, line-01, letter, ending, line}}
 use Rattle.transcript.specs.{Copies.{put-at, Copied}, Reading.{answer-room, printed}}
 
 length-hexadecimal : (k n : ℕ) → length (hexadecimal k n) ≡ k
@@ -8,10 +8,12 @@ unfolding hexadecimal
 length-hexadecimal zero n = refl
 length-hexadecimal (suc k) n = length-append (hexadecimal k (n / 16)) _ ∙ omega (arith, length-hexadecimal k (n / 16))
 
-line-fits : (a : Answer) → length (line a) ≤ 14
-unfolding line two-decimals
-line-fits Accepted = omega arith
-line-fits (Shown h s) = omega (arith, length-append (hexadecimal 4 h) (hexadecimal 8 s), length-hexadecimal 4 h, length-hexadecimal 8 s)
+line-fits : (a : Answer) → length (line a) ≤ 15
+unfolding line line-01 ending two-decimals
+line-fits (Accepted r) = omega arith
+line-fits (Shown h s) =
+    let l : List ℕ = hexadecimal 4 h ++ hexadecimal 8 s in
+    omega (arith, length-append l (letter Other ∷ []), length-append (hexadecimal 4 h) (hexadecimal 8 s), length-hexadecimal 4 h, length-hexadecimal 8 s)
 line-fits Lost = omega arith
 line-fits (Refused n) = omega arith
 
@@ -20,10 +22,10 @@ unfolding printed
 printed-fits a = omega (arith, length-append (line a) (newline ∷ []), line-fits a)
 
 -- as many bytes of an array of 16 as an answer's line has
-module _ (n : ℕ) (b : List ℕ) (a : Answer) (long : length b ≡ 16) (same : take n b ≡ line a ++ (newline ∷ [])) where
+module _ (n : ℕ) (b : List ℕ) (a : Answer) (long : length b ≡ 16) (fits : n ≤ 16) (same : take n b ≡ line a ++ (newline ∷ [])) where
   pub printed-count : n ≡ length (printed a)
   unfolding printed
-  printed-count = let e : length (take n b) ≡ length (printed a) = ap length same in omega (arith, length-take n b, printed-fits a)
+  printed-count = let e : length (take n b) ≡ length (printed a) = ap length same in omega (arith, length-take n b)
 
   pub printed-copied : (out : List ℕ) (at i : ℕ) (r : List ℕ) → i ≡ n → Copied out at b i r → r ≡ put-at out at (printed a)
   unfolding printed

@@ -11,7 +11,7 @@ line-room = LINE
 
 -- the longest line that an answer prints, with its newline
 abbrev pub answer-room : ℕ
-answer-room = 15
+answer-room = 16
 
 pub record Reading : Type 0 where
   pub state : State

@@ -1,4 +1,4 @@
--- A buffer of 15 bytes a line has room for every answer.
+-- A buffer of 16 bytes a line has room for every answer.
 use Rattle.lists.specs.Basics.{true, List, [], _∷_, _++_, _≡_, refl, _∙_, ℕ, _*_, _-_, _≤_, _<_, arith, eq-eqb, le-leb, eqb, length, take-length, drop-length}
 use Rattle.lists.specs.Tests.{either}
 use Rattle.protocol.specs.{Parts.{State, start}, Frames.Line, Lines.{newline, lines}, Step.{step, answers}}
@@ -32,7 +32,7 @@ enough-lines room s l (b ∷ i) h =
     let (_, _, _, reads, end) = enough-lines room s (l ++ (b ∷ [])) i g in
     (_, _, _, reads-on s room (omega (arith, some-line l b (lines i))) l b e reads, end))
 
--- 15 bytes a line are enough, and the whole transcript is written
+-- 16 bytes a line are enough, and the whole transcript is written
 pub enough-room : (room : ℕ) (input : List ℕ) → answer-room * length (lines input) ≤ room → enough room input ≡ true
 unfolding enough beginning takes
 enough-room room input h =

@@ -16,7 +16,7 @@ use store::STORE;
 pub const LINE: usize = 2047;
 
 // The room for an answer's line, its newline included.
-const ANSWER: usize = 15;
+const ANSWER: usize = 16;
 
 // A reader that was fed: what it has of the line under way, how many bytes it took, and how many it wrote.
 pub struct Fed {

@@ -22,7 +22,7 @@ returns c =
 returns-2 : tie.Need-returns-2
 returns-2 c =
     let w = c .before .before in
-    let i = w .before .before in
+    let i = w .before .before .before in
     let g = i .before .before .before .before in
     let st = g .before .before .before in
     let a = st .args in

@@ -11,6 +11,8 @@ use Rattle.lists.specs.Lists.{_∈_}
 use Rattle.lists.specs.Questions.{Result, ok, refuse, put-all, Yes, put-ok}
 use Rattle.protocol.specs.declared.Entry.{Entry}
 use Rattle.protocol.specs.declared.Packet.{Packet}
+use Rattle.protocol.specs.declared.Rule.{Rule}
+use Rattle.protocol.specs.declared.Rule.the-variants.{Other}
 use Rattle.protocol.specs.declared.Answer.the-variants.{Lost}
 use Rattle.protocol.specs.Parts.{State, start}
 use Rattle.protocol.specs.Working.{worked-only, receivers-of, value-out, hops-out, work-next}
@@ -22,7 +24,7 @@ use Rattle.protocol.specs.Frames as frames
 use Rattle.protocol.specs.Frames.{Line, Frame, frame}
 use Rattle.protocol.specs.Job.{begin}
 use Rattle.protocol.specs.Questions as questions
-use Rattle.protocol.specs.Step.{Outcome, accept, crash-outcome, deliver-outcome, work-outcome, outcome, judged, play, step-frame, step, play-all, answers-from}
+use Rattle.protocol.specs.Step.{Outcome, accept-by, accept, crash-outcome, deliver-outcome, work-outcome, outcome, judged, play, step-frame, step, play-all, answers-from}
 use Rattle.protocol.specs.History.{state-after, answers-after}
 use Rattle.protocol.specs.Recovery.Along.{settled}
 use Rattle.protocol.specs.Recovery.Frames.Calm.{calm-send, calm-send-all, calm-deliver}
@@ -40,14 +42,17 @@ abbrev Flagged : State → Outcome → Type 0
 Flagged s o = Leaves s o ⊎ Loses o
 
 -- ---- frame by frame
+accepted-by : (r : Rule) (s t : State) → t .lost ≡ s .lost → Flagged s (accept-by r t)
+accepted-by r s t e = inl (record { flag = ap (λ s. s .lost) (settled t) ∙ e; other = λ q. absurd (let z : _≡_ {A = ℕ} 0 1 = cc in omega arith) })
+
 accepted : (s t : State) → t .lost ≡ s .lost → Flagged s (accept t)
 unfolding accept
-accepted s t e = inl (record { flag = ap (λ s. s .lost) (settled t) ∙ e; other = λ q. absurd (let z : _≡_ {A = ℕ} 0 1 = cc in omega arith) })
+accepted s t e = accepted-by Other s t e
 
 delivered : (s : State) (k a r n : ℕ) (o : Option Packet) → Flagged s (deliver-outcome s k a r n o)
 unfolding deliver-outcome
 delivered s k a r n none = accepted s s refl
-delivered s k a r n (some x) = accepted s _ (calm-deliver s k a r n x .lost)
+delivered s k a r n (some x) = accepted-by _ s (deliver s k a r n x) (calm-deliver s k a r n x .lost)
 
 worked : (s : State) (c : ℕ) (o : Option Entry) → Flagged s (work-outcome s c o)
 unfolding work-outcome work-next worked-only

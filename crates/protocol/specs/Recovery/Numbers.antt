@@ -46,7 +46,7 @@ kept-accept {s} {h} k = subst (λ s. Kept s h) (sym (settled s)) (record { holes
 
 kept-packet : {s : State} {h : Holes} → Kept s h → (q a r n : ℕ) (o : Option Packet) → questions.on-wire s q a r n ≡ o → Yes (questions.packet-questions s o)
     → Kept (deliver-outcome s q a r n o .state) (give-asked s o h)
-unfolding deliver-outcome give-asked questions.on-wire questions.packet-questions questions.ticket-fits questions.needs-ticket packets.deliver packets.entry-of give
+unfolding deliver-outcome accept give-asked questions.on-wire questions.packet-questions questions.ticket-fits questions.needs-ticket packets.deliver packets.entry-of give
 kept-packet k q a r n none found y = kept-accept k
 kept-packet {s} k q a r n (some x) found y =
     let (f, t) = k .wire x (find-some _ (s .wire) found .0) in

@@ -197,7 +197,7 @@ module _ {s : State} {h : History} (k : Kept s h) where
 
   keep-wire : (q a r n : ℕ) (o : Option Packet) → questions.on-wire s q a r n ≡ o → up s (packets.destination (s .job) q a r) ≡ true → Yes (questions.packet-questions s o)
       → Reached k (deliver-outcome s q a r n o .state) (recorded s h (deliver q a r n))
-  unfolding questions.packet-questions deliver-outcome
+  unfolding questions.packet-questions deliver-outcome accept
   keep-wire q a r n none e u y = true-not-false (y .0) refl
   keep-wire q a r n (some p) e u y = keep-delivered q a r n p e u (y .1 .1 .0)
 

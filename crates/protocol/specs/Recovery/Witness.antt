@@ -28,7 +28,7 @@ unfoldable pub moment : List Line
 moment = lines (text recovering)
 
 -- every frame is accepted
-pub accepted : answers (text (recovering ++ "1601\n")) ≡ text "00\n00\n00\n00\n00\n00\n00\n00\n00\n00\n00000100000023\n"
+pub accepted : answers (text (recovering ++ "1601\n")) ≡ text "00J\n00J\n00C\n00G\n00H\n00J\n00J\n00J\n00H\n00J\n00000100000023J\n"
 unfolding opened recovering two through
 accepted = refl
 

@@ -1,7 +1,7 @@
 -- `ack` notes the entry in the table.
 use Rattle.lists.specs.Basics.{ap, arith, needs}
 use Rattle.lists.specs.Lists.{change1}
-use Rattle.protocol.specs.Tickets.{for-message, mark-noted}
+use Rattle.protocol.specs.{Tickets.{for-message, mark-noted}, declared.Rule.the-variants.Other}
 use Rattle.memory.specs.View.{table-changed}
 use Rattle.deliver.specs.{Effect.{quiet, ack-effect}, View.{effect-of, reply-of}}
 use Rattle.deliver.proofs.arrive.ack.Statement.{statement}
@@ -13,7 +13,7 @@ returns c =
     let t = c .before .before in
     let st = t .before .before .before in
     let a = st .args in
-    ap quiet (table-changed (a .m .now) (t .note .last .0) (st .pre) (omega arith) (change1 (for-message (a .sender) (a .sn)) mark-noted) (t .note .ensures .items))
+    ap (quiet Other) (table-changed (a .m .now) (t .note .last .0) (st .pre) (omega arith) (change1 (for-message (a .sender) (a .sn)) mark-noted) (t .note .ensures .items))
 
 pub ack-spec : {M : Type 1} → statement M
 ack-spec =

@@ -3,7 +3,7 @@ use Rattle.lists.specs.Basics.{none, _≡_, refl, sym, ap, _∙_, false, _-_, _
 use Rattle.lists.specs.Questions.{ok, put-all}
 use Rattle.arrays.specs.Front.{push}
 use Rattle.protocol.specs.{Parts.{Memory, number-limit, table-room}, Packets.is-worked, Window.worked}
-use Rattle.protocol.specs.{Tickets.{entry, next-tn, new-tn, unreceived}, declared.Content.the-variants.GrantNew as GRANT-new}
+use Rattle.protocol.specs.{Tickets.{entry, next-tn, new-tn, unreceived}, declared.Content.the-variants.GrantNew as GRANT-new, declared.Rule.the-variants.AskNew}
 use Rattle.words.specs.Part.{part, part-length}
 use Rattle.tickets.specs.Table.{found-entry}
 use Rattle.memory.specs.{Places.{TABLE, ROW}, View.{memory-view, table-part, table-changed}}
@@ -55,13 +55,13 @@ returns c =
     let k = f .before .before in
     let a = k .before .before .before .before .args in
     let found = ap (λ l. entry l (a .sender) (a .sn)) (table-part (a .m .now)) ∙ sym (k .find .ensures) ∙ ap found-entry (f .e .given .1) in
-    replying (a .m .now) _ _ _ (c .replied .ensures) (rw (c .before .grant-of .ensures, found))
+    replying (a .m .now) _ _ _ (c .accepted .ensures) (rw (c .before .grant-of .ensures, found))
 
 returns-2 : tie.Need-returns-2
 unfolding effect-of reply-of ask-questions ask-effect put-all
 returns-2 c =
     let w = c .before .before in
-    replying (start-of w .args .m .now) _ _ _ (c .replied2 .ensures) (rw (no-entry w, sym (worked-at w) ∙ c .before .if1 .taken))
+    replying (start-of w .args .m .now) _ _ _ (c .accepted2 .ensures) (rw (no-entry w, sym (worked-at w) ∙ c .before .if1 .taken))
 
 returns-3 : tie.Need-returns-3
 unfolding put-all
@@ -106,8 +106,8 @@ returns-6 c =
     let size = start-of w .pre .0 in
     let z : length (part TABLE ROW (a .m .now)) - 1 ≡ 16 = omega (arith, part-length TABLE ROW (a .m .now) (omega (arith, size))) in
     let room : length (memory-view (a .m .now) .table) < table-room = rw table-part (omega (arith, n .count .ensures)) in
-    replying (a .m .now) _ _ _ (c .replied3 .ensures)
-    (ap (λ m. ok (answering m (GRANT-new (t .next-tn .result)))) (table-changed (a .m .now) (x .enter .last .0) size (omega arith) (λ l. push 16 l (unreceived (a .sender) (a .sn) (t .next-tn .result))) (rw (z, mod-eq-of-lt (start-of w .pre .1)) at (x .enter .ensures .items)))
+    replying (a .m .now) _ _ _ (c .accepted3 .ensures)
+    (ap (λ m. ok (answering AskNew m (GRANT-new (t .next-tn .result)))) (table-changed (a .m .now) (x .enter .last .0) size (omega arith) (λ l. push 16 l (unreceived (a .sender) (a .sn) (t .next-tn .result))) (rw (z, mod-eq-of-lt (start-of w .pre .1)) at (x .enter .ensures .items)))
     ∙ ap ok (entered _ _ _ (tn-at t) room)
     ∙ ask-new _ _ _ (tn-at t) (w .before .before .before .mark .ensures) (no-entry w) (not-worked (else-of t))
     (le-leb (t .next-tn .result) number-limit (omega arith)) (sym (d .admitted .ensures) ∙ not-false _ (n .before .before .before .if3 .left)) (lt-ltb _ table-room room))

@@ -1,6 +1,6 @@
 -- `data_in`: no entry, a received one, or one that is filled.
 use Rattle.lists.specs.Basics.{_∙_, ap, sym, _%_, arith, needs, not-true, not-false}
-use Rattle.protocol.specs.Tickets.{entry, filled}
+use Rattle.protocol.specs.{Tickets.{entry, filled}, declared.Rule.the-variants.DataFilled}
 use Rattle.tickets.specs.Table.{found-entry}
 use Rattle.memory.specs.View.{table-part, table-changed}
 use Rattle.deliver.specs.{Effect.{quiet, data-effect}, View.{effect-of, reply-of}}
@@ -17,7 +17,7 @@ returns c =
     let st = k .before .before .before .before in
     let a = st .args in
     let e = ap (λ l. entry l (a .sender) (a .sn)) (table-part (a .m .now)) ∙ sym (k .find .ensures) ∙ ap found-entry (x .e .given .1) in
-    ap quiet (table-changed (a .m .now) (t .fill .last .0) (st .pre) (omega arith) (filled (a .sender) (a .sn) (a .value) (a .hops % 8)) (t .fill .ensures .items))
+    ap (quiet DataFilled) (table-changed (a .m .now) (t .fill .last .0) (st .pre) (omega arith) (filled (a .sender) (a .sn) (a .value) (a .hops % 8)) (t .fill .ensures .items))
     ∙ rw (e, not-true (x .e .given .0 .0 .received) (i .if1 .taken))
 
 returns-2 : tie.Need-returns-2
@@ -51,8 +51,8 @@ data-in-spec =
     (λ c. search needs)
     (λ c κs. search needs)
     (λ c. search needs)
-    (λ c. search needs)
     returns
+    (λ c. search needs)
     (λ c. search needs)
     returns-2
     (λ c. search needs)

@@ -1,6 +1,6 @@
 -- `grant_new`: the message without a TN gets it, and goes out.
 use Rattle.lists.specs.Basics.{_∙_, ap, arith, needs}
-use Rattle.protocol.specs.{Packets.ticketed, declared.Content.the-variants.Data as DATA}
+use Rattle.protocol.specs.{Packets.ticketed, declared.Content.the-variants.Data as DATA, declared.Rule.the-variants.GrantNew}
 use Rattle.memory.specs.View.{log-part, log-changed}
 use Rattle.deliver.specs.{Effect.{answering, unticketed, grant-new-effect}, View.{effect-of, reply-of}}
 use Rattle.deliver.proofs.Tags.{no-unticketed}
@@ -22,7 +22,7 @@ returns-2 c =
     let st = k .before .before .before .before in
     let a = st .args in
     let v = x .x .given .0 .0 in
-    ap (λ m. answering m (DATA (v .value) (v .hops))) (log-changed (a .m .now) (t .set-ticket .last .0) (st .pre) (omega arith) (ticketed (a .receiver) (a .sn) (a .tn)) (t .set-ticket .ensures .items))
+    ap (λ m. answering GrantNew m (DATA (v .value) (v .hops))) (log-changed (a .m .now) (t .set-ticket .last .0) (st .pre) (omega arith) (ticketed (a .receiver) (a .sn) (a .tn)) (t .set-ticket .ensures .items))
     ∙ rw (log-part, ← k .lookup .ensures, x .x .given .1)
 
 pub grant-new-spec : {M : Type 1} → statement M

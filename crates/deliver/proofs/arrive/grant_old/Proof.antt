@@ -1,7 +1,7 @@
 -- `grant_old`: the message without a TN goes.
 use Rattle.lists.specs.Basics.{_∙_, ap, arith, needs}
 use Rattle.lists.specs.Lists.{remove1}
-use Rattle.protocol.specs.Packets.{for-receiver}
+use Rattle.protocol.specs.{Packets.for-receiver, declared.Rule.the-variants.GrantOld}
 use Rattle.memory.specs.View.{log-part, log-changed}
 use Rattle.deliver.specs.{Effect.{quiet, unticketed, grant-old-effect}, View.{effect-of, reply-of}}
 use Rattle.deliver.proofs.Tags.{no-unticketed}
@@ -22,7 +22,7 @@ returns-2 c =
     let k = x .before .before in
     let st = k .before .before .before .before in
     let a = st .args in
-    ap quiet (log-changed (a .m .now) (t .remove .last .0) (st .pre) (omega arith) (remove1 (for-receiver (a .receiver) (a .sn))) (t .remove .ensures .items))
+    ap (quiet GrantOld) (log-changed (a .m .now) (t .remove .last .0) (st .pre) (omega arith) (remove1 (for-receiver (a .receiver) (a .sn))) (t .remove .ensures .items))
     ∙ rw (log-part, ← k .lookup .ensures, x .enum-told .given .1)
 
 pub grant-old-spec : {M : Type 1} → statement M

@@ -1,6 +1,6 @@
 -- `grant_received`: the message without a TN gets it.
 use Rattle.lists.specs.Basics.{_∙_, ap, arith, needs}
-use Rattle.protocol.specs.Packets.{ticketed}
+use Rattle.protocol.specs.{Packets.ticketed, declared.Rule.the-variants.GrantReceived}
 use Rattle.memory.specs.View.{log-part, log-changed}
 use Rattle.deliver.specs.{Effect.{quiet, unticketed, grant-received-effect}, View.{effect-of, reply-of}}
 use Rattle.deliver.proofs.Tags.{no-unticketed}
@@ -21,7 +21,7 @@ returns-2 c =
     let k = x .before .before in
     let st = k .before .before .before .before in
     let a = st .args in
-    ap quiet (log-changed (a .m .now) (t .set-ticket .last .0) (st .pre) (omega arith) (ticketed (a .receiver) (a .sn) (a .tn)) (t .set-ticket .ensures .items))
+    ap (quiet GrantReceived) (log-changed (a .m .now) (t .set-ticket .last .0) (st .pre) (omega arith) (ticketed (a .receiver) (a .sn) (a .tn)) (t .set-ticket .ensures .items))
     ∙ rw (log-part, ← k .lookup .ensures, x .enum-told .given .1)
 
 pub grant-received-spec : {M : Type 1} → statement M
