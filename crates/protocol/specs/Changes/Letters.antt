@@ -24,6 +24,6 @@ without-last (a ∷ b ∷ l) = a ∷ without-last (b ∷ l)
 unfoldable pub drop-letter : Line → Line
 drop-letter l = cond (begins-with-00 l) (without-last l) l
 
--- for every input, line by line
-pub record Claims : Type 0 where
+-- for every input, the lines of the whole output
+pub record Letters : Type 0 where
   pub dropped : (input : List ℕ) → map drop-letter (lines (answers input)) ≡ lines (answers-01 input)

@@ -13,7 +13,7 @@ use Rattle.protocol.specs.Frames.{Line, Frame, job, inject, deliver, wor
 use Rattle.protocol.specs.Lines.{newline, extend, lines, printed-digit, hexadecimal, two-decimals, line-01, letter, ending, line, print}
 use Rattle.protocol.specs.Questions as questions
 use Rattle.protocol.specs.Step.{Outcome, accept, crash-outcome, deliver-outcome, work-outcome, outcome, judged, play, step-frame, step, answers-from, answers, answers-01}
-use Rattle.protocol.specs.Changes.Letters.{begins-with-00, without-last, drop-letter, Claims}
+use Rattle.protocol.specs.Changes.Letters.{begins-with-00, without-last, drop-letter, Letters}
 
 -- ---- the lines of what is printed
 -- no newline is in it: what is printed comes after it in the code
@@ -170,9 +170,9 @@ unfolding answers-from step
 all-dropped s [] = refl
 all-dropped s (l ∷ ls) = rw (frame-dropped s (frame l), all-dropped (step s l .state) ls)
 
-pub claims : Claims
+pub letters : Letters
 unfolding answers answers-01
-claims = record {
+letters = record {
   dropped = λ input.
       let l = answers-from start (lines input) in
       ap (map drop-letter) (printed-lines line plain l) ∙ all-dropped start (lines input) ∙ sym (printed-lines line-01 plain-01 l);
