@@ -1,12 +1,13 @@
 // The line that an answer prints, with its newline.
 ghost use mathlib.Core.Path.{_≡_};
-ghost use mathlib.Core.List.{[], _∷_, _++_};
-ghost use Prim.Native.Nat.{_≤_, _%_};
-ghost use lib.ListN.{take};
+ghost use mathlib.Core.List.{_∷_, _++_};
+ghost use Prim.Native.Nat.{_+_, _-_, _%_};
+ghost use lib.ListN.{length, replicate};
 ghost use Rattle.protocol.specs.Lines.{newline, printed-digit, letter, line};
 use protocol::Answer;
 use protocol::Rule;
 
+// The bytes behind the line are 0.
 pub struct Printed {
     pub len: u8,
     pub bytes: [u8; 16],
@@ -39,7 +40,7 @@ fn letter(r: Rule) -> u8
 }
 
 pub fn print(a: Answer) -> Printed
-    ensures { λ r. ⌜ (r .len ≤ 16) × (take (r .len) (r .bytes) ≡ line a ++ (newline ∷ [])) ⌝ }
+    ensures { λ r. ⌜ (r .len ≡ length (line a) + 1) × (r .bytes ≡ line a ++ (newline ∷ replicate (16 - r .len) 0)) ⌝ }
 {
     let mut b = [0u8; 16];
     match a {

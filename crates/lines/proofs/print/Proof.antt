@@ -1,20 +1,20 @@
 -- `lines::print` meets its contract: each answer, digit by digit.
-use Rattle.lists.specs.Basics.{arith, needs}
+use Rattle.lists.specs.Basics.{needs}
 use Rattle.protocol.specs.Lines.{line-01, ending, line, hexadecimal, two-decimals}
 use Rattle.lines.proofs.print.Statement.{statement}
 use Rattle.lines.proofs.print.Tie as tie
 
 returns : tie.Need-returns
 unfolding line line-01 ending
-returns c = (omega arith, rw (c .before .before .a .given .1, c .letter .ensures))
+returns c = let e = c .before .before .a .given .1 in (rw e, rw (e, c .letter .ensures))
 
 returns-2 : tie.Need-returns-2
 unfolding line line-01 ending
-returns-2 c = (omega arith, rw (c .enum-told .given .1))
+returns-2 c = let e = c .enum-told .given .1 in (rw e, rw e)
 
 returns-3 : tie.Need-returns-3
 unfolding line line-01 ending two-decimals
-returns-3 c = (omega arith, rw (c .before .a2 .given .1))
+returns-3 c = let e = c .before .a2 .given .1 in (rw e, rw e)
 
 returns-4 : tie.Need-returns-4
 unfolding line line-01 ending hexadecimal
@@ -23,7 +23,7 @@ returns-4 c =
     let c8 = d .before .before .before .before in
     let c4 = c8 .before .before .before .before in
     let s = c4 .before .before .before .before .before .a3 in (
-      omega arith,
+      rw (s .given .1),
       rw (
         s .given .1,
         c4 .before .before .before .digit .ensures,

@@ -15,7 +15,7 @@ loop-holds c =
     let a = c .before .before .before .before .args in
     let p = c .before .before .print in
     let size : length (p .result .bytes) ≡ 16 = search needs in
-    (search needs, omega (arith, printed-count (p .result .len) (p .result .bytes) (a .answer) size (p .ensures .0) (p .ensures .1), printed-fits (a .answer)), size, record { long = refl; same = paste-zero (a .out .now) (a .at) (p .result .bytes) })
+    (search needs, omega (arith, printed-count (p .result .len) (p .result .bytes) (a .answer) (p .ensures .0) (p .ensures .1), printed-fits (a .answer)), size, record { long = refl; same = paste-zero (a .out .now) (a .at) (p .result .bytes) })
 
 loop-again : tie.Need-loop-again Inv-loop μ-loop
 loop-again c =
@@ -29,7 +29,7 @@ returns c =
     let p = c .before .before .before .before .print in
     let l = c .before .loop in
     let all : l .i ≡ p .result .len = omega arith in
-    (printed-count (p .result .len) (p .result .bytes) (a .answer) (l .inv .2) (p .ensures .0) (p .ensures .1), printed-copied (p .result .len) (p .result .bytes) (a .answer) (l .inv .2) (p .ensures .0) (p .ensures .1) (a .out .now) (a .at) (l .i) (l .out) all (l .inv .3))
+    (printed-count (p .result .len) (p .result .bytes) (a .answer) (p .ensures .0) (p .ensures .1), printed-copied (p .result .len) (p .result .bytes) (a .answer) (p .ensures .0) (p .ensures .1) (a .out .now) (a .at) (l .i) (l .out) all (l .inv .3))
 
 pub put-spec : {M : Type 1} → statement M
 put-spec =
