@@ -1,17 +1,11 @@
 // The line that an answer prints, with its newline.
 ghost use mathlib.Core.Path.{_≡_};
 ghost use mathlib.Core.List.{_∷_, _++_};
-ghost use Prim.Native.Nat.{_+_, _-_, _%_};
-ghost use lib.ListN.{length, replicate};
+ghost use Prim.Native.Nat.{_+_, _≤_, _%_};
+ghost use lib.ListN.{length, drop};
 ghost use Rattle.protocol.specs.Lines.{newline, printed-digit, letter, line};
 use protocol::Answer;
 use protocol::Rule;
-
-// The bytes behind the line are 0.
-pub struct Printed {
-    pub len: u8,
-    pub bytes: [u8; 16],
-}
 
 // The last hexadecimal digit of a number.
 fn digit(n: u32) -> u8
@@ -39,49 +33,51 @@ fn letter(r: Rule) -> u8
     }
 }
 
-pub fn print(a: Answer) -> Printed
-    ensures { λ r. ⌜ (r .len ≡ length (line a) + 1) × (r .bytes ≡ line a ++ (newline ∷ replicate (16 - r .len) 0)) ⌝ }
+// Writes the line to the front of a buffer; how many bytes it has.
+pub fn print(out: &mut [u8], a: Answer) -> usize
+    requires { ⌜ 16 ≤ length (now out) ⌝ }
+    ensures count { λ r. ⌜ r ≡ length (line a) + 1 ⌝ }
+    ensures bytes { λ r. ⌜ now (out .exit) ≡ line a ++ (newline ∷ drop r (now (out .entry))) ⌝ }
 {
-    let mut b = [0u8; 16];
     match a {
         Answer::Accepted(r) => {
-            b[0] = 48;
-            b[1] = 48;
-            b[2] = letter(r);
-            b[3] = 10;
-            Printed { len: 4, bytes: b }
+            out[0] = 48;
+            out[1] = 48;
+            out[2] = letter(r);
+            out[3] = 10;
+            4
         }
         Answer::Lost => {
-            b[0] = 70;
-            b[1] = 70;
-            b[2] = 10;
-            Printed { len: 3, bytes: b }
+            out[0] = 70;
+            out[1] = 70;
+            out[2] = 10;
+            3
         }
         Answer::Refused(n) => {
-            b[0] = 48 + n / 10 % 10;
-            b[1] = 48 + n % 10;
-            b[2] = 10;
-            Printed { len: 3, bytes: b }
+            out[0] = 48 + n / 10 % 10;
+            out[1] = 48 + n % 10;
+            out[2] = 10;
+            3
         }
         Answer::Shown { height, state } => {
             let h = height as u32;
-            b[0] = 48;
-            b[1] = 48;
-            b[2] = digit(h / 16 / 16 / 16);
-            b[3] = digit(h / 16 / 16);
-            b[4] = digit(h / 16);
-            b[5] = digit(h);
-            b[6] = digit(state / 16 / 16 / 16 / 16 / 16 / 16 / 16);
-            b[7] = digit(state / 16 / 16 / 16 / 16 / 16 / 16);
-            b[8] = digit(state / 16 / 16 / 16 / 16 / 16);
-            b[9] = digit(state / 16 / 16 / 16 / 16);
-            b[10] = digit(state / 16 / 16 / 16);
-            b[11] = digit(state / 16 / 16);
-            b[12] = digit(state / 16);
-            b[13] = digit(state);
-            b[14] = letter(Rule::Other);
-            b[15] = 10;
-            Printed { len: 16, bytes: b }
+            out[0] = 48;
+            out[1] = 48;
+            out[2] = digit(h / 16 / 16 / 16);
+            out[3] = digit(h / 16 / 16);
+            out[4] = digit(h / 16);
+            out[5] = digit(h);
+            out[6] = digit(state / 16 / 16 / 16 / 16 / 16 / 16 / 16);
+            out[7] = digit(state / 16 / 16 / 16 / 16 / 16 / 16);
+            out[8] = digit(state / 16 / 16 / 16 / 16 / 16);
+            out[9] = digit(state / 16 / 16 / 16 / 16);
+            out[10] = digit(state / 16 / 16 / 16);
+            out[11] = digit(state / 16 / 16);
+            out[12] = digit(state / 16);
+            out[13] = digit(state);
+            out[14] = letter(Rule::Other);
+            out[15] = 10;
+            16
         }
     }
 }

@@ -15,7 +15,7 @@ pub use lib.ListN.{length-map, List·getD-eq-default, List·getD-map, take-appen
 pub use lib.Seq.{take-all, drop-cons, getD-set-same, getD-set-other, drop-drop, length-take-le, take-suc-set, take-take, getD-drop, take-at}
 pub use lib.Seq.{drop-at, take-suc, paste, getD-take, drop-set-lt, paste-zero, paste-suc, take-set-lt, drop-set-add, take-nil, take-add}
 pub use lib.Seq.{drop-length, take-length, take-paste, take-append-add, length-paste, drop-paste, length-paste-head, take-append-le}
-pub use lib.Seq.{drop-append-le, take-set-le, set-out, lt-length-set}
+pub use lib.Seq.{drop-append-le, take-set-le, set-out, lt-length-set, sets-eq}
 pub use borrow.Author.Tests.{ne-eqb, not-true, not-false, eq-eqb, le-leb, lt-leb, lt-ltb, le-ltb, leb-true, eqb-true, ltb-true, ltb-false}
 pub use borrow.Author.Tests.{eqb-false, leb-false}
 pub use borrow.Author.Needs.{needs}

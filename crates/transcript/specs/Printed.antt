@@ -1,7 +1,7 @@
 -- An answer's line with its newline has at most 16 bytes.
-use Rattle.lists.specs.Basics.{List, [], _∷_, _++_, _≡_, refl, sym, ap, _∙_, ℕ, zero, suc, _+_, _-_, _≤_, _/_, arith, length, take, drop, replicate, append-assoc, length-append, take-at}
+use Rattle.lists.specs.Basics.{List, [], _∷_, _++_, _≡_, refl, sym, ap, _∙_, ℕ, zero, suc, _+_, _-_, _≤_, _/_, arith, length, take, drop, append-nil, append-assoc, length-append, length-drop, drop-drop, take-all, drop-of-length-le}
 use Rattle.protocol.specs.{declared.Rule.the-variants.Other, declared.Answer.Answer, declared.Answer.the-variants.{Accepted, Shown, Lost, Refused}, Lines.{newline, hexadecimal, two-decimals, line-01, letter, ending, line}}
-use Rattle.transcript.specs.{Copies.{put-at, Copied}, Reading.{answer-room, printed}}
+use Rattle.transcript.specs.{Copies.put-at, Reading.{answer-room, printed}}
 
 length-hexadecimal : (k n : ℕ) → length (hexadecimal k n) ≡ k
 unfolding hexadecimal
@@ -21,15 +21,17 @@ pub printed-fits : (a : Answer) → length (printed a) ≤ answer-room
 unfolding printed
 printed-fits a = omega (arith, length-append (line a) (newline ∷ []), line-fits a)
 
--- as many bytes of an array as an answer's line has, of which it is the front
-module _ (n : ℕ) (b : List ℕ) (a : Answer) (count : n ≡ length (line a) + 1) (front : b ≡ line a ++ (newline ∷ replicate (16 - n) 0)) where
+-- the line stands at the front of the part of a buffer that is left
+module _ (a : Answer) (n : ℕ) (count : n ≡ length (line a) + 1) where
   pub printed-count : n ≡ length (printed a)
   unfolding printed
   printed-count = omega (arith, length-append (line a) (newline ∷ []))
 
-  printed-front : take n b ≡ printed a
+  pub printed-put : (out : List ℕ) (at : ℕ) (ys : List ℕ) → ys ≡ line a ++ (newline ∷ drop n (take (length out - at) (drop at out)))
+      → take at out ++ (ys ++ drop (length out - at) (drop at out)) ≡ put-at out at (printed a)
   unfolding printed
-  printed-front = ap (take n) (front ∙ sym (append-assoc (line a) (newline ∷ []) _)) ∙ take-at (line a ++ (newline ∷ [])) _ n (sym printed-count)
-
-  pub printed-copied : (out : List ℕ) (at i : ℕ) (r : List ℕ) → i ≡ n → Copied out at b i r → r ≡ put-at out at (printed a)
-  printed-copied out at i r e c = c .same ∙ rw (e, printed-front) (ap (λ k. take at out ++ printed a ++ drop (at + k) out) printed-count)
+  printed-put out at ys e =
+      let rest : take (length out - at) (drop at out) ≡ drop at out = take-all (length out - at) (drop at out) (omega (arith, length-drop at out)) in
+      let none : drop (length out - at) (drop at out) ≡ [] = drop-of-length-le (drop at out) {i = length out - at} (omega (arith, length-drop at out)) in
+      rw (e, rest, none, append-nil, drop-drop, ← printed-count)
+      (ap (take at out ++_) (sym (append-assoc (line a) (newline ∷ []) _)) ∙ sym (append-assoc (take at out) (line a ++ (newline ∷ [])) _))

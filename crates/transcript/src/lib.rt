@@ -72,15 +72,7 @@ fn put(out: &mut [u8], at: usize, answer: Answer) -> usize
     ensures count { λ r. ⌜ r ≡ length (printed answer) ⌝ }
     ensures bytes { λ r. ⌜ now (out .exit) ≡ put-at (now (out .entry)) at (printed answer) ⌝ }
 {
-    let p = lines::print(answer);
-    let b = p.bytes;
-    let n = p.len as usize;
-    let mut i = 0;
-    while i < n {
-        out[at + i] = b[i];
-        i += 1;
-    }
-    n
+    lines::print(&mut out[at..], answer)
 }
 
 // Takes bytes of the input while there is room for one more answer in the buffer.
