@@ -90,7 +90,7 @@ fn satuphir_looks_at_the_call_first() {
 fn satuphir_says_how_far_it_is() {
     let proving =
         "echo 'fn some: proved'; echo 'rt: lists proved (1 s)'; echo 'rt: protocol proved (16 s)'; echo 'rt: window proved (4 s)'";
-    let said = "satuphir: proving and building the engine: 3 crates, about five minutes the first time (--quick does without)\n\
+    let said = "satuphir: proving and building the engine: 3 crates, five to seven minutes the first time (--quick does without)\n\
                 satuphir: proved 1 of 3: lists\nsatuphir: proved 2 of 3: protocol\nsatuphir: proved 3 of 3: window\n\
                 satuphir: writing the library ...\n";
     let library = "mkdir -p target/staticlib && touch target/staticlib/libsatuphir.a";
