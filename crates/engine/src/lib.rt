@@ -2,8 +2,6 @@
 ghost use mathlib.Core.Path.{_≡_};
 ghost use lib.ListN.{length};
 ghost use Rattle.protocol.specs.Step.{step};
-ghost use Rattle.frames.specs.Read.{read-as};
-ghost use Rattle.protocol.specs.Frames.{frame};
 ghost use Rattle.store.specs.Places.{STORE};
 ghost use Rattle.store.specs.View.{view, Framed};
 ghost use Rattle.engine.specs.Play.{settles};

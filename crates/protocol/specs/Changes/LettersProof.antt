@@ -1,5 +1,5 @@
 -- The letters dropped are document 01's lines: no answer's line has a newline in it, and no refusal's line begins with 00.
-use Rattle.lists.specs.Basics.{_≡_, refl, sym, ap, _∙_, Bool, true, false, not, _&&_, List, [], _∷_, _++_, map, Option, some, none, ℕ, zero, suc, _<_, _/_, _%_, arith, eqb, ltb, ne-eqb}
+use Rattle.lists.specs.Basics.{_≡_, refl, sym, ap, _∙_, Bool, true, false, not, _&&_, List, [], _∷_, _++_, map, Option, some, none, ℕ, zero, suc, _<_, _/_, _%_, arith, ltb, ne-eqb}
 use Rattle.lists.specs.Tests.{either, and-l, and-r, not-true}
 use Rattle.lists.specs.Questions.{Question, _asks_, put-all}
 use Rattle.protocol.specs.declared.Entry.{Entry}
