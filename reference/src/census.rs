@@ -3,6 +3,7 @@
 use crate::answer::{Answer, Rule};
 use crate::frame::Frame;
 use crate::job::ix;
+use crate::limits::WINDOW_BITS;
 use crate::state::State;
 use crate::wire::Content;
 use crate::world::Phase;
@@ -230,7 +231,7 @@ impl Census {
         if sent > state.world.wire.len() - before.wire.min(state.world.wire.len()) {
             self.add(Event::LocalFilled);
         }
-        let rose = |(seen, &mark): (&crate::seen::Seen, &u16)| seen.mark - mark == 64;
+        let rose = |(seen, &mark): (&crate::seen::Seen, &u16)| seen.mark - mark == WINDOW_BITS;
         if me.seen.iter().zip(&before.marks).any(rose) {
             self.add(Event::WholeWindow);
         }

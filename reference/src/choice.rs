@@ -6,6 +6,7 @@ use crate::job::{ix, Job};
 use crate::limits::{DESK, WIRE_SIZE};
 use crate::mood::Order;
 use crate::outlook::{catching_up, is_refused, lacks_space, makes_space, workable};
+use crate::seen::Reply;
 use crate::state::State;
 use crate::wire::{Kind, Name};
 use crate::world::{destination, World};
@@ -127,7 +128,7 @@ impl Generator {
         let seen = state.world.chare(name.receiver()).seen[name.sender() as usize];
         let refused = names.iter().any(|n| {
             let same = n.sender() == name.sender() && n.receiver() == name.receiver();
-            same && n.kind() == Kind::Ask && !seen.admits(n.sn())
+            same && n.kind() == Kind::Ask && matches!(seen.look(n.sn()), Reply::Beyond(_))
         });
         self.held = match left {
             0 => None,

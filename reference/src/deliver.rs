@@ -4,6 +4,7 @@ use crate::answer::{Question, Rule};
 use crate::job::{ix, Job};
 use crate::limits::MAX_NUMBER;
 use crate::message::{Body, Lookup};
+use crate::seen::Reply;
 use crate::table::Entry;
 use crate::wire::{Content, Kind, Name};
 use crate::world::{destination, Note, World};
@@ -54,15 +55,15 @@ impl World {
             };
             return Ok((Rule::AskFound, grant));
         }
-        let seen = &chare.seen[sender as usize];
-        if seen.has(sn) {
+        let reply = chare.seen[sender as usize].look(sn);
+        if reply == Reply::Worked {
             return Ok((Rule::AskWorked, Content::GrantOld));
         }
         let tn = chare.next_ticket(None);
         if tn > MAX_NUMBER {
             return Err(Question::Number);
         }
-        if !seen.admits(sn) {
+        if matches!(reply, Reply::Beyond(_)) {
             return Err(Question::Window);
         }
         // Noted from the start: the sender's log keeps this ticket.

@@ -15,7 +15,7 @@ pub const LOG_SIZE: usize = 16;
 pub const TABLE_SIZE: usize = 16;
 pub const NOTES_SIZE: usize = 64;
 pub const WIRE_SIZE: usize = 128;
-pub const WINDOW_BITS: u16 = 64;
+pub const WINDOW_BITS: u16 = 128;
 
 /// The desk's number as a sender.
 pub const DESK: u8 = 0;

@@ -2,6 +2,7 @@
 
 use crate::job::Job;
 use crate::limits::{DESK, LOG_SIZE, TABLE_SIZE};
+use crate::seen::Reply;
 use crate::wire::{Kind, Name};
 use crate::world::{Phase, World};
 
@@ -25,11 +26,12 @@ pub fn catching_up(world: &World) -> Option<u8> {
 /// Would this be an ASK refused for window or space?
 pub fn is_refused(world: &World, name: Name) -> bool {
     let me = world.chare(name.receiver());
-    let seen = me.seen[name.sender() as usize];
-    name.kind() == Kind::Ask
-        && me.table.find(name.sender(), name.sn()).is_none()
-        && !seen.has(name.sn())
-        && (me.table.0.is_full() || !seen.admits(name.sn()))
+    let no_room = match me.seen[name.sender() as usize].look(name.sn()) {
+        Reply::Worked => false,
+        Reply::Open => me.table.0.is_full(),
+        Reply::Beyond(_) => true,
+    };
+    name.kind() == Kind::Ask && no_room && me.table.find(name.sender(), name.sn()).is_none()
 }
 
 /// Would the sends of the next work, as far as can be seen at once, lack space?

@@ -6,32 +6,38 @@ use crate::limits::WINDOW_BITS;
 #[derive(Clone, Copy, Debug, Default, PartialEq, Eq)]
 pub struct Seen {
     pub mark: u16,
-    pub window: u64,
+    pub window: u128,
+}
+
+/// What the lookup of an SN replies.
+#[derive(Clone, Copy, Debug, PartialEq, Eq)]
+pub enum Reply {
+    Worked,
+    /// Not worked, and in the window.
+    Open,
+    /// Above the window's last SN, by so many.
+    Beyond(u16),
 }
 
 impl Seen {
-    /// The window's bit for an SN, if the SN lies in the window.
-    fn bit(&self, sn: u16) -> Option<u64> {
-        let above = sn.checked_sub(self.mark)?;
-        (1..=WINDOW_BITS).contains(&above).then(|| 1 << (above - 1))
+    pub fn look(&self, sn: u16) -> Reply {
+        match sn.saturating_sub(self.mark) {
+            0 => Reply::Worked,
+            above if above > WINDOW_BITS => Reply::Beyond(above - WINDOW_BITS),
+            above if self.window >> (above - 1) & 1 == 1 => Reply::Worked,
+            _ => Reply::Open,
+        }
     }
 
-    pub fn has(&self, sn: u16) -> bool {
-        sn <= self.mark || self.bit(sn).is_some_and(|bit| self.window & bit != 0)
-    }
-
-    /// May a new ticket be given to this SN?
-    pub fn admits(&self, sn: u16) -> bool {
-        u32::from(sn) <= u32::from(self.mark) + u32::from(WINDOW_BITS)
-    }
-
-    /// Marks an SN as worked. Outside the window nothing changes.
+    /// Marks an SN as worked. One that is not open changes nothing.
     pub fn add(&mut self, sn: u16) {
-        let Some(bit) = self.bit(sn) else { return };
-        self.window |= bit;
+        if self.look(sn) != Reply::Open {
+            return;
+        }
+        self.window |= 1 << (sn - self.mark - 1);
         let run = (!self.window).trailing_zeros();
         self.mark += run as u16;
-        // A run of all 64 ones empties the window.
+        // A run of all 128 ones empties the window.
         self.window = self.window.checked_shr(run).unwrap_or(0);
     }
 }

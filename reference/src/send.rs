@@ -6,7 +6,7 @@ use crate::job::{ix, Job};
 use crate::limits::{DESK, LOG_SIZE, MAX_HOPS, MAX_NUMBER, MAX_PORTS, TABLE_SIZE, WIRE_SIZE};
 use crate::list::List;
 use crate::message::{Body, Logged};
-use crate::seen::Seen;
+use crate::seen::{Reply, Seen};
 use crate::table::Entry;
 use crate::wire::{Content, Kind, Name};
 use crate::world::World;
@@ -162,9 +162,11 @@ impl World {
             return Err(Question::Number);
         }
         let takes = |p: &Planned| matches!(p.route, Route::Takes(_));
-        let outside =
-            |p: &Planned| takes(p) && !self.chare(p.receiver).seen[chare as usize].admits(p.sn);
-        if plan.iter().any(outside) {
+        let beyond = |p: &Planned| {
+            let reply = self.chare(p.receiver).seen[chare as usize].look(p.sn);
+            takes(p) && matches!(reply, Reply::Beyond(_))
+        };
+        if plan.iter().any(beyond) {
             return Err(Question::Window);
         }
         if self.chare(chare).log.0.len() + plan.len() > LOG_SIZE {

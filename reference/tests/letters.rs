@@ -3,6 +3,7 @@
 use reference::answer::{Answer, Question, Rule};
 use reference::frame::{parse, Frame};
 use reference::generator::{list, whole, Generator};
+use reference::seen::Reply;
 use reference::state::State;
 use reference::wire::Content;
 
@@ -264,7 +265,7 @@ fn letter(before: &State, frame: &Frame) -> char {
     let waits = logged.is_some_and(|m| m.tn.is_none());
     match world.wire.content(world.wire.find(name).unwrap()) {
         Content::Ask if entry.is_some() => 'A',
-        Content::Ask if receiver.seen[sender as usize].has(sn) => 'B',
+        Content::Ask if receiver.seen[sender as usize].look(sn) == Reply::Worked => 'B',
         Content::Ask => 'C',
         Content::GrantOld if waits => 'E',
         Content::GrantReceived(_) if waits => 'F',

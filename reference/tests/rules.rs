@@ -3,6 +3,7 @@
 use reference::answer::{Answer, Question};
 use reference::message::Body;
 use reference::state::State;
+use reference::table::Entry;
 use reference::wire::Content;
 use reference::world::{Note, Phase};
 
@@ -159,6 +160,78 @@ fn local_send_fills_a_restored_entry() {
     assert_eq!(state.world.chare(2).table.0.len(), 1);
     accept(&mut state, &["1202"]);
     assert_eq!(state.world.phases[0], Phase::Up);
+}
+
+/// Chare 1 has a message to work and will write to its port; its last SN to chare 2 is set by hand.
+fn about_to_send(job: &str, last: u16) -> State {
+    let mut state = start(job);
+    accept(&mut state, &["1001000701", "110100010001", "110200010001"]);
+    accept(&mut state, &["110300010001"]);
+    state.world.chare_mut(1).sent[1] = last;
+    state
+}
+
+/// Question 8 of a local send. No list gets there: what is sent and not worked stands in a table of
+/// 16.
+#[test]
+fn local_send_beyond_the_window() {
+    refuse(&mut about_to_send(LOCAL, 128), "1201", Question::Window);
+    let mut state = about_to_send(LOCAL, 127);
+    accept(&mut state, &["1201"]);
+    assert_eq!(wire(&state), [(1, 2, 128, Content::Note(1))]);
+}
+
+/// Question 8 is put to new tickets, and asks for no more than mark + 128.
+#[test]
+fn sends_that_pass_question_8() {
+    // To another machine: its ASK will be asked.
+    let mut state = about_to_send("0102020000010200020000", 128);
+    accept(&mut state, &["1201"]);
+    assert_eq!(wire(&state), [(1, 2, 129, Content::Ask)]);
+    // An entry is there.
+    let mut state = about_to_send(LOCAL, 128);
+    let entry = Entry {
+        sender: 1,
+        sn: 129,
+        tn: 1,
+        received: None,
+        noted: true,
+    };
+    state.world.chare_mut(2).table.0.push(entry);
+    accept(&mut state, &["1201"]);
+    assert_eq!(wire(&state), []);
+    // The SN is worked; no list gets there.
+    let mut state = about_to_send(LOCAL, 0);
+    state.world.chare_mut(2).seen[1].mark = 5;
+    accept(&mut state, &["1201"]);
+    assert_eq!(wire(&state), [(1, 2, 1, Content::Note(1))]);
+}
+
+/// The send is judged with the mark that the worked message has raised.
+#[test]
+fn local_send_after_the_mark_has_risen() {
+    // Chare 1 writes to itself: it works its own SN 1 and sends the next.
+    let mut state = start("0102010000010100");
+    accept(&mut state, &["1001000702", "110100010001", "110200010001"]);
+    accept(&mut state, &["110300010001", "1201"]);
+    accept(&mut state, &["110401010001", "110501010001"]);
+    state.world.chare_mut(1).sent[0] = 129;
+    refuse(&mut state, "1201", Question::Window);
+    state.world.chare_mut(1).sent[0] = 128;
+    accept(&mut state, &["1201"]);
+    assert_eq!(state.world.chare(1).seen[1].mark, 1);
+    assert_eq!(wire(&state), [(1, 1, 129, Content::Note(3))]);
+}
+
+/// Question 7 comes before question 8.
+#[test]
+fn ask_without_a_number_and_beyond_the_window() {
+    let mut state = start(PLAIN);
+    state.world.desk.sent[0] = 128;
+    accept(&mut state, &["1001000700"]);
+    refuse(&mut state, "110100010081", Question::Window);
+    state.world.chare_mut(1).height = 60_000;
+    refuse(&mut state, "110100010081", Question::Number);
 }
 
 #[test]

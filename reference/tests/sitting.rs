@@ -149,30 +149,53 @@ fn states() {
     assert_eq!(worked_state(0xFFFF_FFFF, 65_535), 65_534);
 }
 
-/// SN 1 is held back while 2 to 64 are worked.
+/// The desk's messages of these SNs, each injected and carried; a checkpoint makes space for the
+/// next.
+fn work_through(state: &mut State, sns: std::ops::RangeInclusive<u16>) {
+    for sn in sns {
+        inject(state, sn);
+        carry(state, sn);
+        accept(state, &["1301"]);
+    }
+}
+
+/// SN 1 is held back while 2 to 128 are worked.
 #[test]
 fn window() {
     let mut state = one_chare();
     inject(&mut state, 1);
-    for sn in 2..=63 {
-        inject(&mut state, sn);
-        carry(&mut state, sn);
-        accept(&mut state, &["1301"]);
-    }
-    inject(&mut state, 64);
-    inject(&mut state, 65);
+    work_through(&mut state, 2..=127);
+    inject(&mut state, 128);
+    inject(&mut state, 129);
     assert_eq!(state.world.chare(1).seen[0].mark, 0);
     play(
         &mut state,
-        &[("110100010041", "08"), ("110100010040", "00C")],
+        &[("110100010081", "08"), ("110100010080", "00C")],
     );
-    accept(&mut state, &["110200010040", "110300010040", "1201"]);
-    play(&mut state, &[("110100010041", "08")]);
-    // SN 1 closes the run of 64, and the window is empty.
+    accept(&mut state, &["110200010080", "110300010080", "1201"]);
+    play(&mut state, &[("110100010081", "08")]);
+    // SN 1 closes the run of 128, and the window is empty.
     carry(&mut state, 1);
     let seen = state.world.chare(1).seen[0];
-    assert_eq!((seen.mark, seen.window), (64, 0));
-    play(&mut state, &[("110100010041", "00C")]);
+    assert_eq!((seen.mark, seen.window), (128, 0));
+    play(&mut state, &[("110100010081", "00C")]);
+}
+
+/// SN 1 and 71 are held back: the mark rises by 70, over the joint of two words, and what stood
+/// above comes down.
+#[test]
+fn mark_rises_by_more_than_a_word() {
+    let mut state = one_chare();
+    inject(&mut state, 1);
+    work_through(&mut state, 2..=70);
+    inject(&mut state, 71);
+    work_through(&mut state, 72..=80);
+    carry(&mut state, 1);
+    let seen = state.world.chare(1).seen[0];
+    assert_eq!((seen.mark, seen.window), (70, 0b11_1111_1110));
+    carry(&mut state, 71);
+    let seen = state.world.chare(1).seen[0];
+    assert_eq!((seen.mark, seen.window), (80, 0));
 }
 
 #[test]
