@@ -3,7 +3,8 @@
 use crate::answer::{Answer, Rule};
 use crate::frame::Frame;
 use crate::job::ix;
-use crate::limits::WINDOW_BITS;
+use crate::limits::{HALF_WINDOW, MAX_SENDERS, WINDOW_BITS};
+use crate::seen::{Reply, Seen};
 use crate::state::State;
 use crate::wire::Content;
 use crate::world::Phase;
@@ -53,10 +54,17 @@ pub enum Event {
     RestartWire,
     InjectWire,
     LocalFilled,
+    /// An ASK was found worked by a bit in the window's upper half.
+    WorkedInUpperHalf,
+    /// The mark rose by half the window at once, by more, by the whole window.
+    HalfWindow,
+    OverHalfWindow,
     WholeWindow,
+    /// It rose by less than half, and bits moved from the window's upper half to its lower one.
+    UpperHalfCameDown,
 }
 
-const EVENTS: usize = Event::WholeWindow as usize + 1;
+const EVENTS: usize = Event::UpperHalfCameDown as usize + 1;
 
 #[derive(Clone, Debug)]
 pub struct Census {
@@ -128,6 +136,9 @@ impl Census {
                 };
                 let (sender, receiver, sn) = (name.sender(), name.receiver(), name.sn());
                 let found = world.wire.find(name);
+                let mut lower = world.chare(receiver).seen[sender as usize];
+                lower.window &= u128::from(u64::MAX);
+                before.by_lower_half = lower.look(sn) == Reply::Worked;
                 before.content = found.map(|at| world.wire.content(at));
                 before.wire = world.wire.len();
                 before.holes = world.chare(receiver).holes().count();
@@ -170,7 +181,12 @@ impl Census {
                 Phase::Up => {}
             },
             (_, &Frame::Restart { machine }) => self.restarted(machine, state),
-            (_, Frame::Deliver(delivery)) => self.delivered(before, delivery.receiver, state),
+            (_, Frame::Deliver(delivery)) => {
+                if answer.rule() == Some(Rule::AskWorked) && !before.by_lower_half {
+                    self.add(Event::WorkedInUpperHalf);
+                }
+                self.delivered(before, delivery.receiver, state);
+            }
             (_, &Frame::Work { chare }) => self.worked(before, chare, state),
             _ => {}
         }
@@ -231,9 +247,20 @@ impl Census {
         if sent > state.world.wire.len() - before.wire.min(state.world.wire.len()) {
             self.add(Event::LocalFilled);
         }
-        let rose = |(seen, &mark): (&crate::seen::Seen, &u16)| seen.mark - mark == WINDOW_BITS;
-        if me.seen.iter().zip(&before.marks).any(rose) {
-            self.add(Event::WholeWindow);
+        for (seen, mark) in me.seen.iter().zip(&before.marks) {
+            self.rose(seen, seen.mark - mark);
+        }
+    }
+
+    fn rose(&mut self, seen: &Seen, rise: u16) {
+        let lower = seen.window as u64;
+        match rise {
+            0 => {}
+            WINDOW_BITS => self.add(Event::WholeWindow),
+            HALF_WINDOW => self.add(Event::HalfWindow),
+            _ if rise > HALF_WINDOW => self.add(Event::OverHalfWindow),
+            _ if lower >> (HALF_WINDOW - rise) != 0 => self.add(Event::UpperHalfCameDown),
+            _ => {}
         }
     }
 }
@@ -255,6 +282,8 @@ fn is_grant(content: Content) -> bool {
 #[derive(Clone, Debug, Default)]
 pub struct Before {
     phase: Phase,
+    /// Is the packet's SN worked by the mark or by the window's lower half?
+    by_lower_half: bool,
     content: Option<Content>,
     entry: Option<bool>,
     waiting: bool,
@@ -262,7 +291,7 @@ pub struct Before {
     notes: usize,
     wire: usize,
     logged: usize,
-    marks: [u16; crate::limits::MAX_SENDERS],
+    marks: [u16; MAX_SENDERS],
 }
 
 impl Before {

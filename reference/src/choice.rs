@@ -2,11 +2,11 @@
 
 use crate::frame::Frame;
 use crate::generator::Generator;
+use crate::hold::Held;
 use crate::job::{ix, Job};
 use crate::limits::{DESK, WIRE_SIZE};
 use crate::mood::Order;
 use crate::outlook::{catching_up, is_refused, lacks_space, makes_space, workable};
-use crate::seen::Reply;
 use crate::state::State;
 use crate::wire::{Kind, Name};
 use crate::world::{destination, World};
@@ -40,7 +40,7 @@ impl Generator {
             0 => rng.between(0, self.mood.hops as usize) as u8,
             _ => self.mood.hops,
         };
-        if let Some((name, _)) = self.held {
+        if let Some(Held { name, .. }) = self.held {
             // More from the sender of the held packet to its receiver.
             if !rng.one_in(5) {
                 (chare, hops) = match name.sender() {
@@ -90,12 +90,14 @@ impl Generator {
         if let Some(frame) = self.relief(job, state) {
             return frame;
         }
-        let held = self.held.map(|(name, _)| name);
+        let held = self.held;
         let names = world.wire.names();
         let start = self.rng.below(names.len().max(1));
         let mut all = names[start..].iter().chain(&names[..start]).copied();
         let leads_on = |name: Name| {
-            world.is_up(destination(job, name)) && held != Some(name) && !is_refused(world, name)
+            world.is_up(destination(job, name))
+                && !held.is_some_and(|held| held.has(name))
+                && !is_refused(world, name)
         };
         match all.find(|&name| leads_on(name)) {
             Some(name) => name.into(),
@@ -110,33 +112,6 @@ impl Generator {
         }
     }
 
-    /// Chooses a packet to hold back, or lets it go.
-    fn hold(&mut self, state: &State) {
-        let names = state.world.wire.names();
-        let Some((name, left)) = self.held else {
-            if self.mood.holds && !names.is_empty() {
-                let name = *self.rng.pick(names);
-                // An ASK can be held for long; other packets soon stop their receiver.
-                let ask = name.kind() == Kind::Ask;
-                let frames = if ask { 1500 } else { 60 };
-                if ask || self.rng.one_in(8) {
-                    self.held = Some((name, frames));
-                }
-            }
-            return;
-        };
-        let seen = state.world.chare(name.receiver()).seen[name.sender() as usize];
-        let refused = names.iter().any(|n| {
-            let same = n.sender() == name.sender() && n.receiver() == name.receiver();
-            same && n.kind() == Kind::Ask && matches!(seen.look(n.sn()), Reply::Beyond(_))
-        });
-        self.held = match left {
-            0 => None,
-            _ if refused && self.rng.one_in(5) => None,
-            _ => Some((name, left - 1)),
-        };
-    }
-
     /// A packet that can be delivered and that the mood likes.
     fn packet(&mut self, job: &Job, state: &State) -> Option<Name> {
         let world = &state.world;
@@ -144,20 +119,23 @@ impl Generator {
         if names.is_empty() {
             return None;
         }
+        if let Some(name) = self.due(job, world) {
+            return Some(name);
+        }
         let keen = if self.mood.desk_only { 4 } else { 2 };
         let helped = catching_up(world).filter(|_| !self.rng.one_in(keen));
         if names.len() >= WIRE_SIZE - 2 && self.rng.one_in(12) {
             self.mood.desk_only = false;
         }
         let stingy = self.mood.desk_only && self.cramped <= self.mood.patience;
-        let held = self.held.map(|(name, _)| name);
+        let held = self.held;
         let try_refused = self.rng.one_in(8);
         let fits = |name: Name| {
             let about_desk = name.sender() == DESK;
             let helps = helped
                 .is_some_and(|p| job.machine_of(name.sender()) == p || destination(job, name) == p);
             world.is_up(destination(job, name))
-                && held != Some(name)
+                && !held.is_some_and(|held| held.has(name))
                 && (try_refused || !is_refused(world, name))
                 && (helps || (helped.is_none() && (!stingy || about_desk)))
         };
@@ -268,6 +246,12 @@ impl Generator {
                 machine = other;
             }
         }
+        if let Some(held) = self.held.filter(Held::is_of_chare) {
+            let home = job.machine_of(held.name.sender());
+            if covered.contains(&home) {
+                return Frame::Crash { machine: home };
+            }
+        }
         if given(machine) < 2 && self.rng.one_in(2) {
             return self.deliver(job, state);
         }
@@ -275,15 +259,6 @@ impl Generator {
             self.hold_data(job, world, machine);
         }
         Frame::Crash { machine }
-    }
-
-    /// Holds DATA from a machine back, so that after the restart it may be sent a second time.
-    fn hold_data(&mut self, job: &Job, world: &World, machine: u8) {
-        let mut names = world.wire.names().iter();
-        let own = |n: &&Name| n.kind() == Kind::Data && job.machine_of(n.sender()) == machine;
-        if let Some(&name) = names.find(own) {
-            self.held = Some((name, 30));
-        }
     }
 
     pub(crate) fn restart(&mut self, job: &Job, state: &State) -> Frame {

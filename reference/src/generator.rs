@@ -3,6 +3,7 @@
 use crate::answer::{Answer, Question};
 use crate::encode::{bytes, put_digits};
 use crate::frame::{parse, Frame};
+use crate::hold::Held;
 use crate::job::{ix, Job};
 use crate::junk::{bad_job, blind_frame, put_garbled};
 use crate::layout::sized_job;
@@ -11,7 +12,6 @@ use crate::load::Load;
 use crate::mood::{Act, Mood, Theme, ACTS};
 use crate::rng::Rng;
 use crate::state::State;
-use crate::wire::Name;
 use crate::world::Phase;
 
 /// How the digits of a list are written.
@@ -47,8 +47,7 @@ pub struct Generator {
     mood_left: usize,
     /// When so few frames are left, the run may be lost.
     doom: usize,
-    /// A packet that is not delivered for now, and for how many frames.
-    pub(crate) held: Option<(Name, usize)>,
+    pub(crate) held: Option<Held>,
     load: Option<Load>,
     /// Frames refused for want of space since the last one that was accepted.
     pub(crate) cramped: usize,
@@ -259,6 +258,7 @@ impl Generator {
                 Act::Restart if !down => *weight = 0,
                 Act::Crash if !state.world.all_well() => *weight = 0,
                 Act::Crash if self.mood.desk_only => *weight = 8 * u32::from(wire > 120),
+                Act::Crash => *weight = self.crash_weight(&state.world, *weight),
                 _ => {}
             }
         }

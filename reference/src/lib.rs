@@ -24,6 +24,7 @@ pub mod choice;
 pub mod encode;
 pub mod exam;
 pub mod generator;
+pub mod hold;
 pub mod junk;
 pub mod layout;
 pub mod load;

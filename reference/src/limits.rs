@@ -16,6 +16,8 @@ pub const TABLE_SIZE: usize = 16;
 pub const NOTES_SIZE: usize = 64;
 pub const WIRE_SIZE: usize = 128;
 pub const WINDOW_BITS: u16 = 128;
+/// Where the window is held in two words, they meet here.
+pub const HALF_WINDOW: u16 = WINDOW_BITS / 2;
 
 /// The desk's number as a sender.
 pub const DESK: u8 = 0;

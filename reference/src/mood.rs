@@ -152,9 +152,10 @@ impl Mood {
             Theme::Holding => {
                 mood.acts = [16, 55, 30, 4, 1, 20, 1, 1, 1];
                 mood.holds = true;
-                mood.hops = rng.below(2) as u8;
+                mood.hops = u8::from(rng.one_in(3));
                 mood.budget = 8;
-                mood.lasts = rng.between(500, 1500);
+                // The 128 messages of a window take some 700 frames, those of a chare twice as many.
+                mood.lasts = rng.between(1000, 3000) * (1 + mood.hops as usize);
             }
             Theme::Careless => {
                 mood.acts = [14, 45, 30, 0, 1, 12, 2, 3, 1];

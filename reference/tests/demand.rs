@@ -52,6 +52,11 @@ fn random_lists() {
         Event::GrantOld,
         Event::GrantReceived,
         Event::GrantDropped,
+        Event::WorkedInUpperHalf,
+        Event::HalfWindow,
+        Event::OverHalfWindow,
+        Event::WholeWindow,
+        Event::UpperHalfCameDown,
     ] {
         assert!(census.count(event) > 0, "{event:?} never happened");
     }

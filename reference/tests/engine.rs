@@ -10,7 +10,11 @@ use std::path::Path;
 fn same(name: &str, input: &[u8]) {
     let (want, got) = (answer_all(input), transcript(input));
     if got != want {
-        let line = want.iter().zip(&got).take_while(|(w, g)| w == g).filter(|(&w, _)| w == b'\n');
+        let line = want
+            .iter()
+            .zip(&got)
+            .take_while(|(w, g)| w == g)
+            .filter(|(&w, _)| w == b'\n');
         panic!("{name}: the answers differ at line {}", line.count() + 1);
     }
 }
@@ -31,6 +35,22 @@ fn random_lists() {
         let crashing = whole(Generator::crashing(seed, 400));
         same(&format!("seed {seed}, crashing"), &crashing);
     }
+}
+
+/// Long enough to hold an ASK back until 08.
+#[test]
+fn long_random_lists() {
+    let mut refused = 0;
+    for seed in 1..=40 {
+        let input = list(seed, 3000);
+        same(&format!("seed {seed}, long"), &input);
+        let lines = answer_all(&input);
+        refused += lines
+            .split(|&b| b == b'\n')
+            .filter(|line| line == b"08")
+            .count();
+    }
+    assert!(refused > 0);
 }
 
 #[test]
