@@ -4,7 +4,7 @@ use reference::reader::answer_all;
 use std::fs;
 use std::path::Path;
 
-const LISTS: usize = 61;
+const LISTS: usize = 63;
 
 #[test]
 fn every_vector() {
