@@ -26,7 +26,7 @@ speed() { # LIST
 }
 echo "one random list"
 # of the seeds from 1 on, the first whose list is not cut short by a lost run
-"$lists" 107 1000000 >"$work/list"; speed "$work/list"
+"$lists" 203 1000000 >"$work/list"; speed "$work/list"
 echo "a long sitting of a wide job"
 # the first seed; with these options no list is cut short, but it takes half a minute to find
 "$lists" --machines 6 --chares 12 --frames 1000000 --clean 1 >"$work/wide"; speed "$work/wide"
