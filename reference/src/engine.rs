@@ -16,9 +16,8 @@ pub const LINE_SPACE: usize = 16;
 /// The engine's output for a whole input, written into `out`; its length, if there is room.
 pub fn write_transcript(input: &[u8], out: &mut [u8]) -> Option<usize> {
     // Sound: both places are given with their own lengths, and the engine keeps neither.
-    let len = unsafe {
-        satuphir_transcript(input.as_ptr(), input.len(), out.as_mut_ptr(), out.len())
-    };
+    let len =
+        unsafe { satuphir_transcript(input.as_ptr(), input.len(), out.as_mut_ptr(), out.len()) };
     (len != usize::MAX).then_some(len)
 }
 

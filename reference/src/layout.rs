@@ -44,7 +44,10 @@ pub fn sized_job(
         Layout::Wide => (rng.between(3, 6), rng.between(10, 12)),
         Layout::Crowded => (rng.between(2, 4), rng.between(8, 12)),
     };
-    let (machines, chares) = (machines.unwrap_or(any_machines), chares.unwrap_or(any_chares));
+    let (machines, chares) = (
+        machines.unwrap_or(any_machines),
+        chares.unwrap_or(any_chares),
+    );
     let mut draft = Draft {
         machines: machines as u8,
         chares: chares as u8,
