@@ -129,7 +129,7 @@ fn outcomes_of_examples_and_random_lists() {
             "is not received.",
             "is not noted.",
             "on the wire.",
-            "is above mark",
+            " beyond mark ",
             "the log of the desk holds",
             "the table of chare",
             "of 64 notes are held",

@@ -127,17 +127,71 @@ fn a_number_that_passes_sixty_thousand() {
     }
 }
 
-/// A work that is refused for the window names message and mark.
+/// An ASK that is refused for the window says by how many its SN is beyond it.
+#[test]
+fn an_ask_outside_the_window() {
+    let mut state = played(APART, &[]);
+    state.world.desk.sent[0] = 202;
+    state.world.chares[0].seen[0].mark = 70;
+    let frames = ["1001000300", "1001000300"];
+    assert!(frames.map(|inject| state.line(inject.as_bytes()).is_accepted()) == [true; 2]);
+    for (ask, by) in [("1101000100CB", 5), ("1101000100CC", 6)] {
+        let text = said(&state, ask, Answer::Refused(Question::Window));
+        let want = format!(
+            "question 8, \"new ticket: SN at most mark + 128?\": SN {} is {by} beyond mark 70 + 128.",
+            198 + by
+        );
+        assert!(text.contains(&want), "{text}");
+    }
+}
+
+/// A work that is refused for the window names the first message that is beyond it.
 #[test]
 fn a_work_outside_the_window() {
-    let mut state = played(TOGETHER, &WORKED[..4]);
-    state.world.chares[0].sent[1] = 66;
-    state.world.chares[1].seen[1].mark = 2;
+    let mut once = played(TOGETHER, &WORKED[..4]);
+    once.world.chares[0].sent[1] = 131;
+    once.world.chares[1].seen[1].mark = 2;
+    // Both ports are chare 2, and the first of the two messages is open still.
+    let mut twice = played("0102020201010202010000", &WORKED[..4]);
+    twice.world.chares[0].sent[1] = 129;
+    twice.world.chares[1].seen[1].mark = 2;
+    // The first message, to another machine, is further beyond, but has yet to ask.
+    let mut other = played("0102030201010203020000010000", &WORKED[..4]);
+    other.world.chares[0].sent[1] = 200;
+    other.world.chares[0].sent[2] = 130;
+    other.world.chares[2].seen[1].mark = 2;
+    for (state, want) in [
+        (
+            &once,
+            "it sends 1→2 #132, and SN 132 is 2 beyond mark 2 + 128.",
+        ),
+        (
+            &twice,
+            "it sends 1→2 #131, and SN 131 is 1 beyond mark 2 + 128.",
+        ),
+        (
+            &other,
+            "it sends 1→3 #131, and SN 131 is 1 beyond mark 2 + 128.",
+        ),
+    ] {
+        let text = said(state, "1201", Answer::Refused(Question::Window));
+        assert!(text.contains(want), "{text}");
+    }
+}
+
+/// The sends of a work are judged with the message worked, so the mark named is the one after it.
+#[test]
+fn a_work_that_raises_the_mark() {
+    // Chare 1 writes to itself.
+    let noted = ["110401010001", "110501010001"];
+    let first = [&["1001000302"], &WORKED[1..]].concat();
+    let mut state = played("0102010201010100", &[&first[..], &noted].concat());
+    state.world.chares[0].sent[0] = 129;
     let text = said(&state, "1201", Answer::Refused(Question::Window));
-    assert!(
-        text.contains("it sends 1→2 #67, and SN 67 is above mark 2 + 64"),
-        "{text}"
-    );
+    let want = "it sends 1→1 #130, and SN 130 is 1 beyond mark 1 + 128.";
+    assert!(text.contains(want), "{text}");
+    state.world.chares[0].sent[0] = 128;
+    said(&state, "1201", Answer::Accepted(Rule::Other));
 }
 
 /// A number that stands in two bases says so.

@@ -10,6 +10,7 @@ use reference::job::{ix, Job};
 use reference::limits::{
     DESK, LOG_SIZE, MAX_NUMBER, NOTES_SIZE, TABLE_SIZE, WINDOW_BITS, WIRE_SIZE,
 };
+use reference::seen::Reply;
 use reference::send::{Plan, Planned, Route};
 use reference::wire::Kind;
 use reference::world::{destination, World};
@@ -25,10 +26,10 @@ pub fn words(step: &Step, question: Question) -> String {
 }
 
 /// The question in words.
-fn asked(step: &Step, question: Question) -> &'static str {
+fn asked(step: &Step, question: Question) -> String {
     let restart = matches!(step.frame, Some(Frame::Restart { .. }));
     let work = matches!(step.frame, Some(Frame::Work { .. }));
-    match question {
+    let words = match question {
         Question::Form => "hexadecimal digits in pairs, a known kind, its exact length?",
         Question::Job if matches!(step.frame, Some(Frame::Job(_))) => "no job yet?",
         Question::Job => "is a job set?",
@@ -39,11 +40,12 @@ fn asked(step: &Step, question: Question) -> &'static str {
         Question::Present if work => "is the next TN received and noted?",
         Question::Present => "is the packet on the wire?",
         Question::Number => "does every number stay at 60,000 or below?",
-        Question::Window => "new ticket: SN at most mark + 64?",
+        Question::Window => return format!("new ticket: SN at most mark + {WINDOW_BITS}?"),
         Question::LogSpace => "space in the sender's log?",
         Question::Space => "space in the table or note list?",
-        Question::WireSpace => "wire at most 128 after the step?",
-    }
+        Question::WireSpace => return format!("wire at most {WIRE_SIZE} after the step?"),
+    };
+    words.to_string()
 }
 
 /// What was the matter, without a stop at the end.
@@ -150,20 +152,31 @@ fn entering(plan: &Plan, to: u8) -> usize {
 }
 
 fn outside_window(job: &Job, world: &World, frame: &Frame) -> String {
-    let above = |sn: u16, mark: u16| format!("SN {sn} is above mark {mark} + {WINDOW_BITS}");
     if let Frame::Work { chare } = *frame {
         let (worked, plan) = planned(job, world, chare);
-        let seen = |p: &Planned| worked.chare(p.receiver).seen[usize::from(chare)];
-        let outside = |p: &&Planned| matches!(p.route, Route::Takes(_)) && !seen(p).admits(p.sn);
-        return plan.iter().find(outside).map_or_else(String::new, |p| {
+        let mut taking = plan.iter().filter(|p| matches!(p.route, Route::Takes(_)));
+        let sent = taking.find_map(|p| {
+            let beyond = beyond(&worked, chare, p.receiver, p.sn)?;
             let what = message(chare, p.receiver, p.sn);
-            format!("it sends {what}, and {}", above(p.sn, seen(p).mark))
+            Some(format!("it sends {what}, and {beyond}"))
         });
+        return sent.unwrap_or_default();
     }
-    named(frame).map_or_else(String::new, |name| {
-        let mark = world.chare(name.receiver()).seen[name.sender() as usize].mark;
-        above(name.sn(), mark)
-    })
+    named(frame)
+        .and_then(|name| beyond(world, name.sender(), name.receiver(), name.sn()))
+        .unwrap_or_default()
+}
+
+/// By how many an SN is beyond its receiver's window, if it is.
+fn beyond(world: &World, from: u8, to: u8, sn: u16) -> Option<String> {
+    let seen = world.chare(to).seen[usize::from(from)];
+    match seen.look(sn) {
+        Reply::Worked | Reply::Open => None,
+        Reply::Beyond(by) => Some(format!(
+            "SN {sn} is {by} beyond mark {} + {WINDOW_BITS}",
+            seen.mark
+        )),
+    }
 }
 
 fn log_full(job: &Job, world: &World, frame: &Frame) -> String {
