@@ -107,6 +107,18 @@ pub fn tickets(tns: impl IntoIterator<Item = u16>) -> String {
     format!("TN {}", joined(&tns))
 }
 
+/// Ascending numbers, three or more in a row as a stretch: "2, 3 and 5 to 128".
+pub fn stretches(numbers: &[u16]) -> String {
+    let mut parts = Vec::new();
+    for stretch in numbers.chunk_by(|one, two| one + 1 == *two) {
+        match stretch {
+            [first, _, .., last] => parts.push(format!("{first} to {last}")),
+            few => parts.extend(few.iter().map(u16::to_string)),
+        }
+    }
+    joined(&parts)
+}
+
 /// "1 message", "2 messages".
 pub fn count(number: usize, thing: &str) -> String {
     match number {

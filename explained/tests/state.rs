@@ -35,9 +35,9 @@ fn every_part_is_shown() {
         }
         state
     });
-    let mut tried = [0; 14];
+    let mut tried = [0; 15];
     for state in played.filter(|state| state.job.is_some()) {
-        let changes: [fn(&mut State) -> bool; 14] = [
+        let changes: [fn(&mut State) -> bool; 15] = [
             |s| {
                 change(s.world.chares.iter_mut().find(|c| c.height > 0), |c| {
                     c.state ^= 1
@@ -58,6 +58,12 @@ fn every_part_is_shown() {
                 change(
                     s.world.chares.iter_mut().find(|c| c.seen[0].mark > 0),
                     |c| c.seen[0].window ^= 1 << 63,
+                )
+            },
+            |s| {
+                change(
+                    s.world.chares.iter_mut().find(|c| c.seen[0].mark > 0),
+                    |c| c.seen[0].window ^= 1 << 127,
                 )
             },
             |s| {
@@ -110,6 +116,33 @@ fn every_part_is_shown() {
         }
     }
     assert!(tried.iter().all(|&n| n > 0), "{tried:?}");
+}
+
+/// A window is told in stretches: 128 numbers can still be read.
+#[test]
+fn a_window_can_be_read() {
+    let mut state = State::new();
+    assert!(state.line(b"0102020201010200020000").is_accepted());
+    for (window, want) in [
+        (0b10, "window: SN 302 worked too"),
+        (0b110, "window: SN 302 and 303 worked too"),
+        (0b1110, "window: SN 302 to 304 worked too"),
+        (
+            u128::MAX - 0b1001,
+            "window: SN 302, 303 and 305 to 428 worked too",
+        ),
+        (
+            1 << 127 | 0b111 << 63 | 1 << 1,
+            "window: SN 302, 364 to 366 and 428 worked too",
+        ),
+    ] {
+        state.world.chares[0].seen[0].mark = 300;
+        state.world.chares[0].seen[0].window = window;
+        let sections = compared(&state, &state);
+        let mut entries = sections.iter().flat_map(|section| &section.entries);
+        let want = format!("worked of the desk: mark 300, {want}");
+        assert!(entries.any(|entry| entry.text == want), "{want}");
+    }
 }
 
 fn entry(state: &mut State) -> Option<&mut reference::table::Entry> {

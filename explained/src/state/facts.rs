@@ -1,6 +1,6 @@
 //! A state as a list of facts. Each has a key by which it is found again after the next frame.
 
-use crate::names::{body, count, joined, message, origin, packet, place, sender, tickets};
+use crate::names::{body, count, message, origin, packet, place, sender, stretches, tickets};
 use crate::notation::digits_of;
 use crate::words::catching;
 use reference::chare::Chare;
@@ -9,7 +9,7 @@ use reference::limits::{
     DESK, LOG_SIZE, MAX_CHARES, NOTES_SIZE, TABLE_SIZE, WINDOW_BITS, WIRE_SIZE,
 };
 use reference::message::{Body, Log};
-use reference::seen::Seen;
+use reference::seen::{Reply, Seen};
 use reference::state::State;
 use reference::wire::Content;
 use reference::world::{destination, Phase, World};
@@ -196,11 +196,13 @@ fn put_chare(group: &mut Group, lead: &str, job: &Job, chare: u8, memory: &Chare
 
 /// Mark and window of a sender.
 fn worked(from: u8, seen: Seen) -> String {
-    let above = (1..=WINDOW_BITS).filter(|bit| seen.window >> (bit - 1) & 1 == 1);
-    let above: Vec<String> = above.map(|bit| (seen.mark + bit).to_string()).collect();
+    let above = (1..=WINDOW_BITS).map(|bit| seen.mark + bit);
+    let above: Vec<u16> = above
+        .filter(|&sn| matches!(seen.look(sn), Reply::Worked))
+        .collect();
     let window = match above.len() {
         0 => "window empty".to_string(),
-        _ => format!("window: SN {} worked too", joined(&above)),
+        _ => format!("window: SN {} worked too", stretches(&above)),
     };
     format!("worked of {}: mark {}, {window}", sender(from), seen.mark)
 }
