@@ -208,6 +208,16 @@ fn state_shows_what_is_rarer() {
             "  * worked of the desk: mark 0, window: SN 2 worked too\n",
         ),
         (
+            "11-full-window",
+            "681",
+            "  * worked of the desk: mark 0, window: SN 2 to 128 worked too (before: ",
+        ),
+        (
+            "11-full-window",
+            "685",
+            "  * worked of the desk: mark 128, window empty (before: ",
+        ),
+        (
             "09-catching-up",
             "25",
             "catching up: 1→2 #1 and 1→2 #2 in its logs have no TN",
@@ -234,6 +244,11 @@ fn next_says_what_is_accepted_and_what_is_blocked() {
     }
     let (_, out, _) = fed(&["next", "-"], b"1201\n");
     assert!(out.contains("No job is set"), "{out}");
+    let full = list("11-full-window");
+    let full: Vec<&[u8]> = full.split_inclusive(|&b| b == b'\n').take(676).collect();
+    let (_, out, _) = fed(&["next", "-"], &full.concat());
+    let want = "Packets that are blocked\n  deliver ASK 0>1 #129     110100010081  08: SN 129 is 1 beyond mark 0 + 128.\n";
+    assert!(out.contains(want), "{out}");
     let (_, out, _) = run(&["next", &file("00-the-rule-books-sitting")]);
     assert!(out.contains("The run was lost at frame 13"), "{out}");
 }

@@ -70,6 +70,35 @@ fn explanations() {
     }
 }
 
+/// A line that the words name before its frame, as in "08 (frame 677)", is the one stored.
+#[test]
+fn lines_in_the_words() {
+    let mut found = 0;
+    for name in names() {
+        let lines = stored(&name, "out");
+        let words = stored(&name, "md");
+        let words = words.split_whitespace().collect::<Vec<_>>().join(" ");
+        for (at, _) in words.match_indices(" (frame ") {
+            let line = words[..at].rsplit(' ').next().unwrap_or_default();
+            let number = line.len() >= 2 && line.as_bytes()[0].is_ascii_digit();
+            if !number && line != "FF" {
+                continue;
+            }
+            let rest = &words[at + " (frame ".len()..];
+            let frame: usize = rest[..rest.find(')').expect("an end")]
+                .parse()
+                .expect("a frame");
+            assert_eq!(
+                lines.lines().nth(frame - 1),
+                Some(line),
+                "{name}, frame {frame}"
+            );
+            found += 1;
+        }
+    }
+    assert!(found >= 9, "{found}");
+}
+
 /// The script that makes them says where the lines come from, and takes them there; the gate compares them with the engine's.
 #[test]
 fn where_the_lines_come_from() {

@@ -160,14 +160,14 @@ fn frames(picture: &str) -> (Vec<usize>, usize) {
     (frames, folded)
 }
 
-/// What repeats is folded, and no frame is missing: 272 frames were 11,902 pixels high.
+/// What repeats is folded, and no frame is missing: 686 frames were 31,932 pixels high.
 #[test]
 fn repeated_stretches_are_folded() {
     for (name, all, words) in [
         (
             "11-full-window",
-            272,
-            "folded: 13 more rounds of 5 frames like",
+            686,
+            "folded: 40 more rounds of 16 frames like",
         ),
         (
             "14-full-wire",
@@ -182,7 +182,7 @@ fn repeated_stretches_are_folded() {
         assert_eq!(frames, (1..=all).collect::<Vec<_>>());
         assert!(2 * folded > all, "{name}: {folded} folded");
     }
-    assert_eq!(place(&example("11-full-window"), "8-72").0, 48.0);
+    assert_eq!(place(&example("11-full-window"), "19-658").0, 48.0);
     // What does not repeat stays.
     assert_eq!(frames(&example("05-crash-with-cover")).1, 0);
 }
