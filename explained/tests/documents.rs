@@ -7,6 +7,7 @@ use explained::names::joined;
 use explained::notation::{decode, encode};
 use explained::words::letter;
 use reference::answer::{Answer, Rule};
+use reference::limits::{LOG_SIZE, NOTES_SIZE, TABLE_SIZE, WINDOW_BITS, WIRE_SIZE};
 use reference::reader::answer_all;
 use std::collections::BTreeSet;
 use std::fs;
@@ -201,6 +202,40 @@ fn the_frames_of_the_rules() {
             plain(&row[1]),
             "{words}"
         );
+    }
+}
+
+/// Sizes are those of the second implementation.
+#[test]
+fn the_sizes_of_the_rules() {
+    let rows = rows(&document("docs/RULES.md"));
+    let said = |part: &str| {
+        rows.iter()
+            .find(|row| row[0] == part)
+            .map(|row| row[1].as_str())
+    };
+    for (part, size) in [
+        (
+            "log of a sender (the desk, or a chare)",
+            format!("{LOG_SIZE} messages"),
+        ),
+        (
+            "ticket table of a receiver",
+            format!("{TABLE_SIZE} entries"),
+        ),
+        (
+            "notes that a buddy keeps for one machine",
+            NOTES_SIZE.to_string(),
+        ),
+        ("packets on the wire", WIRE_SIZE.to_string()),
+        ("window", format!("{WINDOW_BITS} SNs above the mark")),
+        (
+            "08",
+            format!("For a new ticket: is the SN at most mark + {WINDOW_BITS}?"),
+        ),
+        ("open", format!("not worked, at most mark + {WINDOW_BITS}")),
+    ] {
+        assert_eq!(said(part), Some(size.as_str()), "{part}");
     }
 }
 
