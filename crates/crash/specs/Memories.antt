@@ -1,33 +1,15 @@
 -- The loops that clear the memories of a machine's chares, and the copies that it keeps.
 use Rattle.lists.specs.Basics.{_≡_, refl, sym, ap, _∙_, Bool, true, false, _≢_, List, [], ℕ, _+_, _<_, _≤_, arith, eq-eqb, ne-eqb, eqb, length, replicate}
-use Rattle.arrays.specs.ArrayMap.{map-blank}
 use Rattle.protocol.specs.{Parts.{State, Memory, blank, on, at-home}, Setters.{with-live, with-copies}, Crash.{kept-by, crash}}
-use Rattle.window.specs.{Bits.bits, BitLaws.no-bits}
-use Rattle.words.specs.{Part.{part, part-length, put}, Rows.row, Zeros.zeros}
+use Rattle.words.specs.Part.{part, part-length, put}
 use Rattle.head.specs.Head.{job-of}
-use Rattle.memory.specs.{Places.MEMORY, View.memory-view}
+use Rattle.memory.specs.{Places.MEMORY, View.memory-view, Blank.memory-zeros}
 use Rattle.store.specs.{Places.{STORE, live-from, copy-from}, View.view, ViewLaws.{live-put, copy-put}}
 use Rattle.store.specs.{Visits.{chosen, visited, visit-hit, visit-miss, visit-all, live-beyond, copy-beyond}}
-use Rattle.tickets.specs.Table as tickets
-use Rattle.logs.specs.Log as logs
-
--- ---- a memory whose words are all 0 is blank
-zeros-blank : memory-view (zeros MEMORY) ≡ blank
-unfolding memory-view blank tickets.entries logs.entries row
-zeros-blank = λ i. record {
-  state = 0;
-  height = 0;
-  sn = map-blank 0 16 i;
-  mark = map-blank 0 16 i;
-  window = (ap (λ f s. bits (f s)) (map-blank 0 16) ∙ ap (λ b (s : ℕ). b) no-bits) i;
-  highest-at-restart = 0;
-  table = [];
-  log = [];
-}
 
 -- a part of a store cleared
 cleared : (xs : List ℕ) (a : ℕ) (ys : List ℕ) → a + MEMORY ≤ length xs → ys ≡ replicate (length (part a MEMORY xs)) 0 → memory-view ys ≡ blank
-cleared xs a ys h e = rw (e, part-length a MEMORY xs h) zeros-blank
+cleared xs a ys h e = rw (e, part-length a MEMORY xs h) memory-zeros
 
 -- ---- the chares below k are done
 abbrev gone : ℕ → Memory

@@ -80,9 +80,8 @@ fn ask(m: &mut [u64], sender: u8, sn: u16) -> Arrived
             reply: Reply::Send(grant_of(e)),
         });
     }
-    let k = memory::mark(m, sender);
-    let w = memory::window(m, sender);
-    if window::worked(k, w, sn) {
+    let seen = memory::seen(m, sender, sn);
+    if window::worked(seen) {
         return accepted(Done {
             rule: Rule::AskWorked,
             reply: Reply::Send(Content::GrantOld),
@@ -94,7 +93,7 @@ fn ask(m: &mut [u64], sender: u8, sn: u16) -> Arrived
     if 60000 < tn {
         return refused(7);
     }
-    if !window::admitted(k, sn) {
+    if !window::admitted(seen) {
         return refused(8);
     }
     if 16 <= tickets::count(&m[TABLE..LOG]) {

@@ -19,11 +19,14 @@ SN = NUMBERS
 abbrev pub MARK : ℕ
 MARK = SN + 16
 
-abbrev pub WINDOW : ℕ
-WINDOW = MARK + 16
+abbrev pub LOW : ℕ
+LOW = MARK + 16
+
+abbrev pub HIGH : ℕ
+HIGH = LOW + 16
 
 abbrev pub TABLE : ℕ
-TABLE = WINDOW + 16
+TABLE = HIGH + 16
 
 abbrev pub ROW : ℕ
 ROW = 17

@@ -1,13 +1,17 @@
--- A chare's memory as words: state, height, top, 16 SN counts, 16 marks, 16 windows, the table and the log. A peer of an item is one of 16,
--- so each has a mark.
+-- A chare's memory as words: state, height, top, 16 SN counts, 16 marks, the low and the high words of 16 windows, the table and
+-- the log. A peer of an item is one of 16, so each has a mark.
 use Rattle.lists.specs.Basics.{_≡_, refl, sym, ap, _∙_, List, map, ℕ, _+_, _%_, _≤_, _<_, arith, length, getD, length-map, List·getD-map}
 use Rattle.arrays.specs.ArrayMap.{as-map, map-beyond}
-use Rattle.protocol.specs.{declared.Entry.Entry, declared.Logged.Logged, Parts.Memory, Setters.{with-table, with-log}}
-use Rattle.window.specs.Bits.{bits}
+use Rattle.protocol.specs.{declared.Entry.Entry, declared.Logged.Logged, Window.Bits, Parts.Memory, Setters.{with-table, with-log}}
+use Rattle.window.specs.{declared.bits.Window.Window, Bits.window-bits}
 use Rattle.words.specs.Part.{part, put, part-at, part-length, part-put, part-before, part-behind}
-use Rattle.memory.specs.Places.{STATE, HEIGHT, TOP, NUMBERS, SN, MARK, WINDOW, TABLE, ROW, LOG, MEMORY}
+use Rattle.memory.specs.Places.{STATE, HEIGHT, TOP, NUMBERS, SN, MARK, LOW, HIGH, TABLE, ROW, LOG, MEMORY}
 use Rattle.tickets.specs.Table as tickets
 use Rattle.logs.specs.Log as logs
+
+-- the windows of two rows of words
+unfoldable pub windows : List ℕ → List ℕ → ℕ → Bits
+windows lows highs s = window-bits (record { low = as-map 0 lows s; high = as-map 0 highs s })
 
 unfoldable pub memory-view : List ℕ → Memory
 memory-view ws = record {
@@ -15,7 +19,7 @@ memory-view ws = record {
   height = getD (part 0 NUMBERS ws) HEIGHT 0 % 65536;
   sn = as-map 0 (map (_% 65536) (part SN 16 ws));
   mark = as-map 0 (map (_% 65536) (part MARK 16 ws));
-  window = λ s. bits (as-map 0 (part WINDOW 16 ws) s);
+  window = windows (part LOW 16 ws) (part HIGH 16 ws);
   highest-at-restart = getD (part 0 NUMBERS ws) TOP 0 % 65536;
   table = tickets.entries (part TABLE ROW ws);
   log = logs.entries (part LOG ROW ws);
@@ -56,13 +60,13 @@ module _ (ws : List ℕ) where
     unfolding memory-view
     mark-at = word-at MARK
 
-    pub window-at : s < 16 → bits (getD ws (WINDOW + s) 0) ≡ memory-view ws .window s
-    unfolding memory-view as-map
-    window-at h = ap bits (sym (part-at WINDOW 16 s ws 0 h))
+    pub window-at : s < 16 → window-bits (record { low = getD ws (LOW + s) 0; high = getD ws (HIGH + s) 0 }) ≡ memory-view ws .window s
+    unfolding memory-view windows as-map
+    window-at h = rw (part-at LOW 16 s ws 0 h, part-at HIGH 16 s ws 0 h)
 
-    pub no-window : length ws ≡ MEMORY → 16 ≤ s → bits 0 ≡ memory-view ws .window s
-    unfolding memory-view
-    no-window size h = ap bits (sym (map-beyond 0 (part WINDOW 16 ws) s (omega (arith, part-length WINDOW 16 ws (omega arith)))))
+    pub no-window : length ws ≡ MEMORY → 16 ≤ s → window-bits (record { low = 0; high = 0 }) ≡ memory-view ws .window s
+    unfolding memory-view windows
+    no-window size h = let past = λ b (f : b + 16 ≤ MEMORY). map-beyond 0 (part b 16 ws) s (omega (arith, part-length b 16 ws (omega arith))) in rw (past LOW (omega arith), past HIGH (omega arith))
 
 -- ---- a row put anew
 module _ (ws ys : List ℕ) (size : length ws ≡ MEMORY) (long : length ys ≡ ROW) where
@@ -71,7 +75,7 @@ module _ (ws ys : List ℕ) (size : length ws ≡ MEMORY) (long : length ys ≡ 
   unfolding memory-view
   row-put a low room p q =
       let kept = part-before a ROW ws ys (omega arith) long in
-      rw (kept 0 NUMBERS (omega arith), kept SN 16 (omega arith), kept MARK 16 (omega arith), kept WINDOW 16 (omega arith), p, q)
+      rw (kept 0 NUMBERS (omega arith), kept SN 16 (omega arith), kept MARK 16 (omega arith), kept LOW 16 (omega arith), kept HIGH 16 (omega arith), p, q)
 
   pub log-put : memory-view (put LOG ROW ws ys) ≡ with-log (memory-view ws) (logs.entries ys)
   unfolding memory-view

@@ -1,25 +1,14 @@
 -- A store of zeros is the state before any job. Its parts have their places as numerals, so that they compute.
 use Rattle.lists.specs.Basics.{_≡_, false, [], ℕ, _+_, _*_, _≤_, arith, ltb-true, ltb, eqb, replicate}
 use Rattle.lists.specs.Tests.{either}
-use Rattle.arrays.specs.ArrayMap.{as-map, map-blank}
+use Rattle.arrays.specs.ArrayMap.{as-map}
 use Rattle.protocol.specs.Parts.{blank, start, no-job}
-use Rattle.window.specs.BitLaws.{no-bits}
 use Rattle.words.specs.{Rows.row, Slots.slots, Zeros.{zeros, zero-at, part-zeros}}
 use Rattle.head.specs.{Cells.cell-none, Head.{job-of, lost-of, as-status, status-of, held-of, target-of}}
 use Rattle.notelist.specs.Notes.{notes}
 use Rattle.packets.specs.Words.{packets}
-use Rattle.memory.specs.{Places.MEMORY, View.memory-view}
+use Rattle.memory.specs.{Places.MEMORY, View.memory-view, Blank.{memory-zeros, memory-none}}
 use Rattle.store.specs.{Places.{STORE, LIVE, COPY, NOTES, NOTELIST}, View.view}
-use Rattle.tickets.specs.Table as tickets
-use Rattle.logs.specs.Log as logs
-
-memory-zeros : memory-view (zeros MEMORY) ≡ blank
-unfolding memory-view blank tickets.entries logs.entries row
-memory-zeros = rw (map-blank {A = ℕ} 0 16, no-bits)
-
-memory-none : memory-view [] ≡ blank
-unfolding memory-view blank tickets.entries logs.entries row as-map
-memory-none = rw no-bits
 
 memories-zeros : (b : ℕ) → b + 13 * MEMORY ≤ STORE → (c : ℕ) → memory-view (slots b MEMORY 13 (zeros STORE) c) ≡ blank
 unfolding slots

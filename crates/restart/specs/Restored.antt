@@ -5,7 +5,7 @@ use Rattle.protocol.specs.{declared.Entry.Entry, Parts.{Memory, State}, Setters
 use Rattle.words.specs.{Part.{part, put, part-length, part-put, put-length, put-again}, PartSet.{part-set, part-set-before}}
 use Rattle.head.specs.Head.{TARGET}
 use Rattle.tickets.specs.Table.{entries}
-use Rattle.memory.specs.{Places.{STATE, HEIGHT, TOP, NUMBERS, SN, MARK, WINDOW, TABLE, ROW, LOG, MEMORY}, View.{memory-view, table-put}}
+use Rattle.memory.specs.{Places.{STATE, HEIGHT, TOP, NUMBERS, SN, MARK, LOW, HIGH, TABLE, ROW, LOG, MEMORY}, View.{memory-view, table-put}}
 use Rattle.store.specs.{Places.{STORE, live-from, copy-from}, View.view, ViewLaws.{copy-at, live-put, live-length, target-set}}
 
 -- the memory m with the table l
@@ -25,7 +25,8 @@ top-set ws t size small =
       getD-set-same n TOP t 0 (omega arith),
       part-set-before SN 16 ws t TOP (omega arith),
       part-set-before MARK 16 ws t TOP (omega arith),
-      part-set-before WINDOW 16 ws t TOP (omega arith),
+      part-set-before LOW 16 ws t TOP (omega arith),
+      part-set-before HIGH 16 ws t TOP (omega arith),
       part-set-before TABLE ROW ws t TOP (omega arith),
       part-set-before LOG ROW ws t TOP (omega arith),
       mod-eq-of-lt small,

@@ -1,6 +1,6 @@
 -- What a send needs to know before it is made: its ticket, and what the questions 7, 8 and 10 say of it.
 use Rattle.lists.specs.Basics.{Bool, true, false, cond, _&&_, List, Option, some, none, ℕ, _+_, eqb, ltb, leb, length}
-use Rattle.protocol.specs.{declared.Entry.Entry, Parts.State, Window.admitted, Tickets.{entry, next-tn}, Sending.is-local}
+use Rattle.protocol.specs.{declared.Entry.Entry, declared.Seen.Seen, Parts.State, Window.admitted, Packets.seen, Tickets.{entry, next-tn}, Sending.is-local}
 use Rattle.sends.specs.{declared.ticket.Ticket.Ticket, declared.ticket.Ticket.the-variants.{Remote, Found, New, TooHigh}}
 use Rattle.sends.specs.{declared.plan.Plan.Plan, Ticket.{is-new, tn-of, sn-next}}
 
@@ -8,20 +8,20 @@ use Rattle.sends.specs.{declared.plan.Plan.Plan, Ticket.{is-new, tn-of, 
 unfoldable pub idle : Ticket → Plan
 idle k = record { ticket = k; admits = true; room = true }
 
--- a new ticket with the TN t, entered after `count` others
-unfoldable pub new-plan : ℕ → ℕ → ℕ → ℕ → Plan
-new-plan t count mark n = cond (leb t 60000) (record { ticket = New t; admits = admitted mark n; room = ltb count 16 }) (idle TooHigh)
+-- a new ticket with the TN t, entered after `count` others; x is the lookup of its SN
+unfoldable pub new-plan : ℕ → ℕ → Seen → Plan
+new-plan t count x = cond (leb t 60000) (record { ticket = New t; admits = admitted x; room = ltb count 16 }) (idle TooHigh)
 
-unfoldable pub local-plan : ℕ → ℕ → ℕ → ℕ → Option Entry → Plan
-local-plan t count mark n (some e) = idle (Found (e .tn))
-local-plan t count mark n none = new-plan t count mark n
+unfoldable pub local-plan : ℕ → ℕ → Seen → Option Entry → Plan
+local-plan t count x (some e) = idle (Found (e .tn))
+local-plan t count x none = new-plan t count x
 
--- The receiver, on the same machine or not, has the table l, its top and its mark for the sender a, whose last SN to it is `last`.
--- New TNs lie above `base`; `extra` entries come before.
-unfoldable pub plan-for : Bool → List Entry → ℕ → ℕ → ℕ → ℕ → ℕ → ℕ → Plan
-plan-for near l top mark a last base extra =
+-- The receiver, on the same machine or not, has the table l and its top, and looks up SNs of the sender a, whose last SN to it is
+-- `last`. New TNs lie above `base`; `extra` entries come before.
+unfoldable pub plan-for : Bool → List Entry → ℕ → (ℕ → Seen) → ℕ → ℕ → ℕ → ℕ → Plan
+plan-for near l top look a last base extra =
     cond (ltb last 60000)
-    (cond near (local-plan (next-tn base top l) (length l + extra) mark (last + 1) (entry l a (last + 1))) (idle Remote))
+    (cond near (local-plan (next-tn base top l) (length l + extra) (look (last + 1)) (entry l a (last + 1))) (idle Remote))
     (idle TooHigh)
 
 -- After a first send with the ticket k, to the same receiver or not: the last SN, the TN that new ones lie above, and the entries that
@@ -39,7 +39,7 @@ extra-after same k = cond (same && is-new k) 1 0
 unfoldable pub plan-with : State → ℕ → ℕ → ℕ → Bool → Ticket → Plan
 plan-with s a d last same k =
     let z = s .live d in
-    plan-for (is-local (s .job) a d) (z .table) (z .highest-at-restart) (z .mark a) a last (base-after same k (z .height)) (extra-after same k)
+    plan-for (is-local (s .job) a d) (z .table) (z .highest-at-restart) (seen z a) a last (base-after same k (z .height)) (extra-after same k)
 
 -- with none before it
 unfoldable pub plan-of : State → ℕ → ℕ → Plan

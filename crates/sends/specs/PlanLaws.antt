@@ -1,7 +1,7 @@
 -- What a plan says: the definitions' answers on its send, and what the send does.
 use Rattle.lists.specs.Basics.{_≡_, refl, _∙_, true, false, Option, some, none, ℕ, _+_, arith, add-one, ltb, leb, length}
 use Rattle.lists.specs.{Tests.{either, true-not-false}, Map.upd-self}
-use Rattle.protocol.specs.{declared.Entry.Entry, Parts.State, Tickets.{entry, new-tn}}
+use Rattle.protocol.specs.{declared.Entry.Entry, Parts.State, Tickets.{entry, new-tn}, Packets.seen}
 use Rattle.protocol.specs.{Sending.{is-local, send, send-message, send-remote, send-local, put, log-message, next-message}}
 use Rattle.protocol.specs.{Questions.{numbers-fit, window-admits, table-has-room, takes-ticket, no-entry, sn-to-send}}
 use Rattle.sends.specs.{declared.ticket.Ticket.Ticket, declared.ticket.Ticket.the-variants.{Remote, Found, TooHigh}, declared.plan.Plan.Plan}
@@ -46,7 +46,7 @@ module _ (s : State) (a b : ℕ) where
 
     module _ (near : is-local (s .job) a b ≡ true) where
       by-entry : (o : Option Entry) → entry (s .live b .table) a (s .live a .sn b + 1) ≡ o
-          → Judges s a b (local-plan (new-tn (s .live b)) (length (s .live b .table) + 0) (s .live b .mark a) (s .live a .sn b + 1) o)
+          → Judges s a b (local-plan (new-tn (s .live b)) (length (s .live b .table) + 0) (seen (s .live b) a (s .live a .sn b + 1)) o)
       unfolding takes-ticket fits is-new no-entry sn-to-send numbers-fit window-admits table-has-room local-plan new-plan
           send send-message send-local put log-message next-message sn-next ticketed-by sent-by tn-of table-by wire-by log-by
       by-entry (some x) e = calm (Found (x .tn)) refl refl (rw (near, e)) (λ v h. rw (near, low, e))

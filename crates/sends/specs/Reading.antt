@@ -1,7 +1,7 @@
 -- What is read of a store: its head and the places of its memories, in the view's words, and how much its rows can hold.
 use Rattle.lists.specs.Basics.{_≡_, refl, _∙_, Bool, true, List, ℕ, _+_, _-_, _<_, _≤_, arith, leb-true, leb, length}
 use Rattle.lists.specs.Tests.{and-r}
-use Rattle.protocol.specs.{Frames.between, Sending.is-local}
+use Rattle.protocol.specs.{Frames.between, Sending.is-local, Packets.seen}
 use Rattle.words.specs.Part.{part, part-length}
 use Rattle.head.specs.{Head.job-of, HeadLaws.chares-top}
 use Rattle.packets.specs.{Words.packets, Fits.packets-fit}
@@ -24,7 +24,7 @@ chare-in xs c e = omega (arith, leb-true c (job-of xs .chares) (and-r (leb 1 c) 
 
 -- the plan of a send, from the receiver's memory; n is the last SN
 pub planned : (xs : List ℕ) (a b : ℕ) → b < 13 → (near : Bool) → near ≡ is-local (job-of xs) a b → (last n : ℕ) → last ≡ n → (same : Bool) (k : Ticket) (p : Plan)
-    → (let y = memory-view (part (live-from b) MEMORY xs) in p ≡ plan-for near (y .table) (y .highest-at-restart) (y .mark a) a last (base-after same k (y .height)) (extra-after same k))
+    → (let y = memory-view (part (live-from b) MEMORY xs) in p ≡ plan-for near (y .table) (y .highest-at-restart) (seen y a) a last (base-after same k (y .height)) (extra-after same k))
     → p ≡ plan-with (view xs) a b n same k
 unfolding plan-with
 planned xs a b b-in near near-is last n last-is same k p e = e ∙ rw (near-is, ← job-at xs, last-is, live-at xs b b-in)

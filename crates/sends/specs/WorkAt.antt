@@ -1,4 +1,4 @@
--- An entry worked where the store stands: the four words written, the sends made; or the four words written back.
+-- An entry worked where the store stands: the five words written, the sends made; or the five words written back.
 use Rattle.lists.specs.Basics.{_≡_, sym, ap, _∙_, List, some, ℕ, _-_, _+_, _%_, _<_, _≤_, arith, length}
 use Rattle.lists.specs.Questions.{first-no}
 use Rattle.protocol.specs.{declared.Rule.the-variants.Other, declared.Answer.the-variants.{Accepted, Refused}, declared.Entry.Entry, Parts.Memory, Setters.with-memory, Work.{ports, receivers, sent-value}}
@@ -9,7 +9,7 @@ use Rattle.store.specs.{Places.{STORE, live-from}, View.{view, Framed}, ViewLaw
 use Rattle.sends.specs.{declared.entry.Worked.Worked, Made.{Made, sends-made, sends-refused}, Sends.tried-sends, Worked.{NumbersOf, numbers-taken, WorkedAs}}
 use Rattle.sends.specs.{Works.{own-questions, tried-work, own-refused, own-passed}}
 
--- xs is the store before; old are the four words, w what the work makes of them
+-- xs is the store before; old are the five words, w what the work makes of them
 module _ (xs : List ℕ) (size : length xs ≡ STORE) (c : ℕ) (c-in : c < 13) (e : Entry) (e-in : e .sender < 16) (old : Numbers) (w : Worked)
     (took : old ≡ taken (part (live-from c) MEMORY xs) (e .sender)) (did : WorkedAs old e w) where
   abbrev was : List ℕ

@@ -1,8 +1,8 @@
--- An entry's message worked on the four words of a memory, and the first question that refuses it.
+-- An entry's message worked on the five words of a memory, and the first question that refuses it.
 use Rattle.lists.specs.Basics.{_≡_, sym, _∙_, true, false, _&&_, List, [], _∷_, ℕ, _+_, _%_, _<_, _≤_, arith, le-leb, lt-leb, leb}
 use Rattle.lists.specs.Questions.{_asks_, first-no}
 use Rattle.protocol.specs.{declared.Entry.Entry, Parts.Memory, Work.work, Working.work-entry, Questions.mark-after}
-use Rattle.window.specs.{declared.Slid.Slid, Bits.{bits, TakenIn}}
+use Rattle.window.specs.{declared.Slid.Slid, Bits.{window-bits, TakenIn}}
 use Rattle.memory.specs.{declared.Numbers.Numbers, Numbers.{taken, with-numbers}, View.{memory-view, state-at, height-at, mark-at, window-at}}
 use Rattle.sends.specs.{declared.entry.Worked.Worked, Works.own-questions}
 
@@ -11,7 +11,7 @@ pub record NumbersOf (m : Memory) (s : ℕ) (x : Numbers) : Type 0 where
   pub state : x .state % 4294967296 ≡ m .state
   pub height : x .height % 65536 ≡ m .height
   pub mark : x .mark % 65536 ≡ m .mark s
-  pub window : bits (x .window) ≡ m .window s
+  pub window : window-bits (x .window) ≡ m .window s
 
 pub numbers-taken : (ws : List ℕ) (s : ℕ) → s < 16 → NumbersOf (memory-view ws) s (taken ws s)
 unfolding taken

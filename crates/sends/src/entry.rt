@@ -1,4 +1,4 @@
-// An entry's message worked: the four words of the memory afterwards, or the question that refuses it.
+// An entry's message worked: the five words of the memory afterwards, or the question that refuses it.
 ghost use mathlib.Core.Path.{_≡_};
 ghost use Rattle.sends.specs.Worked.{WorkedAs};
 use crate::verdict::both;

@@ -158,7 +158,7 @@ fn send_all(s: &mut [u64], c: u8, value: u16, hops: u8) -> u8
     send_two(s, c, b, d, value, h)
 }
 
-// The entry is worked, and what follows is sent; if that is refused, the four words are written back.
+// The entry is worked, and what follows is sent; if that is refused, the five words are written back.
 fn work_at(s: &mut [u64], c: u8, e: Entry) -> Answer
     requires { ⌜ length (now s) ≡ STORE ⌝ }
     requires { ⌜ (c < 13) × (e .sender < 16) × (e .hops < 8) ⌝ }

@@ -3,6 +3,7 @@ ghost use mathlib.Core.Path.{_≡_};
 ghost use Prim.Native.Nat.{_+_, _<_};
 ghost use lib.ListN.{length};
 ghost use Rattle.protocol.specs.Tickets.{next-tn};
+ghost use Rattle.protocol.specs.Packets.{seen};
 ghost use Rattle.memory.specs.Places.{MEMORY};
 ghost use Rattle.memory.specs.View.{memory-view};
 ghost use Rattle.store.specs.Places.{STORE};
@@ -37,18 +38,18 @@ fn idle(ticket: Ticket) -> Plan
 fn new_plan(y: &[u64], a: u8, n: u16, base: u16, extra: u8) -> Plan
     requires { ⌜ length (now y) ≡ MEMORY ⌝ }
     requires { ⌜ extra < 2 ⌝ }
-    ensures { λ r. ⌜ r ≡ new-plan (next-tn base (memory-view (now (y .entry)) .highest-at-restart) (memory-view (now (y .entry)) .table)) (length (memory-view (now (y .entry)) .table) + extra) (memory-view (now (y .entry)) .mark a) n ⌝ }
+    ensures { λ r. ⌜ r ≡ new-plan (next-tn base (memory-view (now (y .entry)) .highest-at-restart) (memory-view (now (y .entry)) .table)) (length (memory-view (now (y .entry)) .table) + extra) (seen (memory-view (now (y .entry))) a n) ⌝ }
 {
     let top = memory::top(y);
     let tn = tickets::next_tn(&y[TABLE..LOG], base, top);
     if 60000 < tn {
         return idle(Ticket::TooHigh);
     }
-    let mark = memory::mark(y, a);
+    let seen = memory::seen(y, a, n);
     let count = tickets::count(&y[TABLE..LOG]);
     Plan {
         ticket: Ticket::New(tn as u16),
-        admits: window::admitted(mark, n),
+        admits: window::admitted(seen),
         room: count + (extra as usize) < 16,
     }
 }
@@ -100,7 +101,7 @@ fn extra_after(same: bool, k: Ticket) -> u8
 // receiver, or not, with the ticket k.
 fn plan_on(near: bool, y: &[u64], a: u8, last: u16, same: bool, k: Ticket) -> Plan
     requires { ⌜ length (now y) ≡ MEMORY ⌝ }
-    ensures { λ r. ⌜ r ≡ plan-for near (memory-view (now (y .entry)) .table) (memory-view (now (y .entry)) .highest-at-restart) (memory-view (now (y .entry)) .mark a) a last (base-after same k (memory-view (now (y .entry)) .height)) (extra-after same k) ⌝ }
+    ensures { λ r. ⌜ r ≡ plan-for near (memory-view (now (y .entry)) .table) (memory-view (now (y .entry)) .highest-at-restart) (seen (memory-view (now (y .entry))) a) a last (base-after same k (memory-view (now (y .entry)) .height)) (extra-after same k) ⌝ }
 {
     if 60000 <= last {
         return idle(Ticket::TooHigh);

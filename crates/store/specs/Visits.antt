@@ -1,16 +1,12 @@
 -- A loop through the chares, or the machines, of a store that changes some of them: w says which, f what they become, g is the map before.
 use Rattle.lists.specs.Basics.{_≡_, sym, _∙_, fun-ext, Bool, true, false, cond, List, [], inl, inr, ℕ, _+_, _<_, _≤_, arith, lt-ltb, le-ltb, ltb, eqb, length, set, length-set}
 use Rattle.lists.specs.{Tests.{either, lt?}, Map.{upd, upd-ind, upd-self}}
-use Rattle.arrays.specs.ArrayMap.{as-map}
 use Rattle.protocol.specs.{declared.Note.Note, Parts.blank, Setters.with-copies}
-use Rattle.window.specs.BitLaws.{no-bits}
 use Rattle.words.specs.{Part.put, Rows.row, Slots.slots}
 use Rattle.head.specs.Head.{HELD}
 use Rattle.notelist.specs.Notes.{notes}
-use Rattle.memory.specs.View.{memory-view}
+use Rattle.memory.specs.Blank.{memory-none}
 use Rattle.store.specs.{Places.{NOTELIST, STORE, notes-from}, View.view, ViewLaws.{held-set, notes-put, notes-length}}
-use Rattle.tickets.specs.Table as tickets
-use Rattle.logs.specs.Log as logs
 
 module _ {A : Type 0} (w : ℕ → Bool) (f g : ℕ → A) where
   unfoldable pub chosen : ℕ → A
@@ -58,18 +54,14 @@ module _ {A : Type 0} (w : ℕ → Bool) (f g : ℕ → A) where
   ])
 
 -- ---- past the last there is nothing
-no-memory : memory-view [] ≡ blank
-unfolding memory-view blank as-map tickets.entries logs.entries row
-no-memory = simp no-bits
-
 module _ (xs : List ℕ) (i : ℕ) where
   pub live-beyond : 13 ≤ i → view xs .live i ≡ blank
   unfolding view slots
-  live-beyond h = rw (le-ltb i 13 h) no-memory
+  live-beyond h = rw (le-ltb i 13 h) memory-none
 
   pub copy-beyond : 13 ≤ i → view xs .copy i ≡ blank
   unfolding view slots
-  copy-beyond h = rw (le-ltb i 13 h) no-memory
+  copy-beyond h = rw (le-ltb i 13 h) memory-none
 
   pub notes-beyond : 7 ≤ i → view xs .notes i ≡ []
   unfolding view slots notes row

@@ -1,10 +1,10 @@
 -- The rotation by 5: two shifts make it, and its bits move round.
-use Rattle.lists.specs.Basics.{_≡_, sym, _∙_, ap, inl, inr, ℕ, suc, _+_, _-_, _*_, _/_, _%_, _^_, _<_, arith, eqb}
+use Rattle.lists.specs.Basics.{_≡_, sym, _∙_, inl, inr, ℕ, _+_, _-_, _*_, _/_, _%_, _^_, _<_, arith}
 use Rattle.lists.specs.Tests.{lt?}
-use Rattle.protocol.specs.{Window.Bits, Work.rotate}
-use Rattle.window.specs.{Bits.bits, BitLaws.shift-bits}
+use Rattle.protocol.specs.Work.{rotate}
+use Rattle.window.specs.{Bits.bits, BitLaws.{low-bits, high-bits}}
 use lib.Bits.{bitOr, or-shifted}
-use lib.Pow.{field, high, low, mod-mod-pow, shr-lt}
+use lib.Pow.{high, low, shr-lt}
 
 -- the 27 low bits move up by 5, the 5 high ones come round to the places left empty
 rotated : (x : ℕ) → rotate x ≡ x % 2 ^ 27 * 2 ^ 5 + x / 2 ^ 27
@@ -22,19 +22,6 @@ module _ (x : ℕ) (small : x < 2 ^ 32) where
       rw (e, rotated) (or-shifted (x % 2 ^ 27) 5 (x / 2 ^ 27) come-round)
 
 -- ---- for the board
--- the bits below k are those of the remainder
-low-bits : (n k i : ℕ) → i < k → bits (n % 2 ^ k) i ≡ bits n i
-unfolding bits
-low-bits n k i h =
-    let e : suc (k - suc i) + i ≡ k = omega arith in
-    let f : n % 2 ^ k / 2 ^ i ≡ n / 2 ^ i % 2 ^ suc (k - suc i) = ap (λ (j : ℕ). n % 2 ^ j / 2 ^ i) (sym e) ∙ field n (suc (k - suc i)) i in
-    let a : k - suc i + 1 ≡ suc (k - suc i) = omega arith in
-    rw f (ap (λ b. eqb b 1) (rw a at (mod-mod-pow (n / 2 ^ i) (k - suc i) 1)))
-
--- the bits from k on are those of the quotient
-high-bits : (n k i : ℕ) → bits (n / 2 ^ k) i ≡ bits n (k + i)
-high-bits n k i = ap (λ (w : Bits). w i) (shift-bits n k)
-
 -- Bit i of the rotated state is bit (i + 27) mod 32 of the state.
 pub rotated-bit : (x i : ℕ) → x < 2 ^ 32 → i < 32 → bits (rotate x) i ≡ bits x ((i + 27) % 32)
 rotated-bit x i h g = elim (lt? i 5) [

@@ -7,8 +7,8 @@ use mathlib.Core.List.{List, [], _∷_, _++_}
 use mathlib.Core.Option.{Option, some, none}
 use Prim.Native.Nat.{ℕ, _+_, _-_, _≤_, _<_}
 use native.Mathlib.Omega.{arith}
-use lib.Dec.{eqb, ltb, leb}
-use borrow.Author.Tests.{ltb-true, leb-true}
+use lib.Dec.{eqb, leb}
+use borrow.Author.Tests.{leb-true}
 use Rattle.lists.specs.Tests.{either, lt?, true-not-false, and-l, and-r}
 use Rattle.lists.specs.Map.{upd-ind, upd-ind₂}
 use Rattle.lists.specs.Lists.{_∈_, All, all-nil, all-snoc, remove1-mem, change1, change1-mem}
@@ -23,7 +23,7 @@ use Rattle.protocol.specs.declared.Lookup.{Lookup}
 use Rattle.protocol.specs.declared.Lookup.the-variants.{Missing, Ticketed, Unticketed}
 use Rattle.protocol.specs.Parts.{Memory, State, number-limit, blank}
 use Rattle.protocol.specs.Setters.{with-table, with-log, with-memory, with-wire}
-use Rattle.protocol.specs.Window.{Bits, width, in-window, bit-set, ones, rise, risen-mark, slid-window}
+use Rattle.protocol.specs.Window.{Bits, width, look, is-open, bit-set, ones, rise, risen-mark, slid-window}
 use Rattle.protocol.specs.Tickets.{fill, filled, mark-noted, unreceived, entry, new-tn}
 use Rattle.protocol.specs.Sending.{is-local, about, put, next-message, log-message, send-remote, local-entry, send-local, send-message, send, send-all}
 use Rattle.protocol.specs.Working.{work-entry}
@@ -31,6 +31,7 @@ use Rattle.protocol.specs.Packets as packets
 use Rattle.protocol.specs.Job.{has-chare, new-memory, first-memory}
 use Rattle.protocol.specs.Questions as questions
 use Rattle.protocol.specs.Recovery.Laws.Holes.{holes-of, holes-snoc, holes-change1}
+use Rattle.protocol.specs.Recovery.Laws.Look.{open-above}
 use Rattle.protocol.specs.Recovery.Laws.Marks.{ones-is}
 use Rattle.protocol.specs.Recovery.Laws.Lookups.{entry-some}
 use Rattle.protocol.specs.Recovery.Holes.{Holes, give, give-sent}
@@ -63,15 +64,15 @@ pub record Small (m : Memory) : Type 0 where
   pub log : Log (m .log)
 
 -- ---- a mark rises to an SN that was worked
-marks-set : {k : ℕ} {w : Bits} (n : ℕ) → Marks k w → n ≤ number-limit → in-window k n ≡ true → (i : ℕ) → bit-set k w n i ≡ true → k + 1 + i ≤ number-limit
-unfolding in-window bit-set
+marks-set : {k : ℕ} {w : Bits} (n : ℕ) → Marks k w → n ≤ number-limit → is-open (look k w n) ≡ true → (i : ℕ) → bit-set k w n i ≡ true → k + 1 + i ≤ number-limit
+unfolding bit-set
 marks-set {k} {w} n m h e =
-    let a : k < n = ltb-true k n (and-l (ltb k n) _ e) in
+    let a : k < n = open-above k w n e in
     upd-ind (λ i b. b ≡ true → k + 1 + i ≤ number-limit) (n - k - 1) true w (λ _. omega arith) (λ i _. m .bits i)
 
 pub marks-work : {k : ℕ} {w : Bits} (n : ℕ) → Marks k w → n ≤ number-limit → Marks (risen-mark k w n) (slid-window k w n)
 unfolding risen-mark slid-window rise
-marks-work {k} {w} n m h = either (in-window k n)
+marks-work {k} {w} n m h = either (is-open (look k w n))
     (λ e.
     let r = ones width (bit-set k w n) in
     let run = ones-is width (bit-set k w n) in

@@ -2,6 +2,7 @@
 pub mod Options
 pub mod Status
 pub mod Changes
+pub mod Look
 pub mod Marks
 pub mod NewTicket
 pub mod Holes

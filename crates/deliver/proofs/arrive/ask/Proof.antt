@@ -14,7 +14,7 @@ use Rattle.deliver.proofs.arrive.ask.Tie as tie
 
 -- ---- the places on the way, from the end to the beginning
 abbrev find-of : tie.After-worked → tie.After-find
-find-of c = c .before .before .before .before .before .before .before
+find-of c = c .before .before .before .before .before
 
 abbrev start-of : tie.After-worked → tie.Start
 start-of c = find-of c .before .before .before .before
@@ -31,7 +31,7 @@ memory-of c = memory-view (start-of c .args .m .now)
 -- ---- what was found there, of the memory as it came
 worked-at : (c : tie.After-worked) → c .worked .result ≡ is-worked (memory-of c) (start-of c .args .sender) (start-of c .args .sn)
 unfolding is-worked
-worked-at c = c .worked .ensures ∙ (λ i. worked (c .before .before .before .mark .ensures i) (c .before .window .ensures i) (start-of c .args .sn))
+worked-at c = c .worked .ensures ∙ ap worked (c .before .seen .ensures)
 
 not-worked : (c : tie.Else1) → is-worked (memory-of (c .before)) (start-of (c .before) .args .sender) (start-of (c .before) .args .sn) ≡ false
 not-worked c = sym (worked-at (c .before)) ∙ c .if1 .left
@@ -40,7 +40,7 @@ no-entry : (c : tie.After-worked) → entry (memory-of c .table) (start-of c .ar
 unfolding found-entry
 no-entry c =
     let a = start-of c .args in
-    ap (λ l. entry l (a .sender) (a .sn)) (table-part (a .m .now)) ∙ sym (find-of c .find .ensures) ∙ ap found-entry (c .before .before .before .before .before .enum-told .given .1)
+    ap (λ l. entry l (a .sender) (a .sn)) (table-part (a .m .now)) ∙ sym (find-of c .find .ensures) ∙ ap found-entry (c .before .before .before .enum-told .given .1)
 
 tn-at : (c : tie.After-next-tn) → c .next-tn .result ≡ new-tn (memory-of (worked-of c))
 unfolding new-tn
@@ -78,7 +78,7 @@ returns-4 c =
     let t = d .before .before in
     let w = worked-of t in
     refusing (start-of w .args .m .now) _ _ 8 (omega arith) (c .refused2 .ensures)
-    (ask-new _ _ _ (tn-at t) (w .before .before .before .mark .ensures) (no-entry w) (not-worked (else-of t))
+    (ask-new _ _ _ (tn-at t) (w .before .seen .ensures) (no-entry w) (not-worked (else-of t))
     (le-leb (t .next-tn .result) number-limit (omega arith)) (sym (d .admitted .ensures) ∙ not-true _ (c .before .if3 .taken)) refl) refl
 
 returns-5 : tie.Need-returns-5
@@ -90,7 +90,7 @@ returns-5 c =
     let w = worked-of t in
     let a = start-of w .args in
     refusing (a .m .now) _ _ 10 (omega arith) (c .refused3 .ensures)
-    (ask-new _ _ _ (tn-at t) (w .before .before .before .mark .ensures) (no-entry w) (not-worked (else-of t))
+    (ask-new _ _ _ (tn-at t) (w .before .seen .ensures) (no-entry w) (not-worked (else-of t))
     (le-leb (t .next-tn .result) number-limit (omega arith)) (sym (d .admitted .ensures) ∙ not-false _ (n .before .before .before .if3 .left)) (le-ltb (length (memory-view (a .m .now) .table)) table-room (rw table-part (omega (arith, n .count .ensures))))) refl
 
 returns-6 : tie.Need-returns-6
@@ -109,7 +109,7 @@ returns-6 c =
     replying (a .m .now) _ _ _ (c .accepted3 .ensures)
     (ap (λ m. ok (answering AskNew m (GRANT-new (t .next-tn .result)))) (table-changed (a .m .now) (x .enter .last .0) size (omega arith) (λ l. push 16 l (unreceived (a .sender) (a .sn) (t .next-tn .result))) (rw (z, mod-eq-of-lt (start-of w .pre .1)) at (x .enter .ensures .items)))
     ∙ ap ok (entered _ _ _ (tn-at t) room)
-    ∙ ask-new _ _ _ (tn-at t) (w .before .before .before .mark .ensures) (no-entry w) (not-worked (else-of t))
+    ∙ ask-new _ _ _ (tn-at t) (w .before .seen .ensures) (no-entry w) (not-worked (else-of t))
     (le-leb (t .next-tn .result) number-limit (omega arith)) (sym (d .admitted .ensures) ∙ not-false _ (n .before .before .before .if3 .left)) (lt-ltb _ table-room room))
 
 pub ask-spec : {M : Type 1} → statement M

@@ -7,7 +7,7 @@ use mathlib.Core.Option.{Option, some, none}
 use Prim.Native.Nat.{ℕ, _+_, _≤_, _<_}
 use native.Mathlib.Omega.{arith}
 use lib.Dec.{eqb}
-use borrow.Author.Tests.{eqb-true, leb-true}
+use borrow.Author.Tests.{eqb-true}
 use Rattle.lists.specs.Tests.{either, split, true-not-false, lt?, and-l, and4}
 use Rattle.lists.specs.Map.{upd, upd-same, upd-self}
 use Rattle.lists.specs.Keys.{NoDup}
@@ -26,10 +26,11 @@ use Rattle.protocol.specs.Setters.{with-table, with-log, with-notes}
 use Rattle.protocol.specs.Window.{admitted, width}
 use Rattle.protocol.specs.Tickets.{entry, for-message, new-tn, unreceived, filled, mark-noted}
 use Rattle.protocol.specs.Sending.{is-local}
-use Rattle.protocol.specs.Packets.{new-table, new-log, ask, for-receiver, ticketed, set-tn, grant-old, grant-received, grant-new, data-in, store-note, note-of, same-note, has-note, ack, is-worked, entry-of, lookup-of}
+use Rattle.protocol.specs.Packets.{new-table, new-log, ask, for-receiver, ticketed, set-tn, grant-old, grant-received, grant-new, data-in, store-note, note-of, same-note, has-note, ack, seen, is-worked, entry-of, lookup-of}
 use Rattle.protocol.specs.Restart.{is-ticketed-above}
 use Rattle.protocol.specs.CrashFree.{Run}
 use Rattle.protocol.specs.Recovery.Run.Facts.{Sent, RunOk}
+use Rattle.protocol.specs.Recovery.Laws.Look.{admitted-near}
 use Rattle.protocol.specs.Recovery.Laws.Marks.{worked-in, in-worked}
 use Rattle.protocol.specs.Recovery.Laws.NewTicket.{new-tn-above, new-tn-free}
 use Rattle.protocol.specs.Recovery.Laws.Lookups.{entry-some, entry-none, Waits, lookup-unticketed, mem-ticketed, entry-key, logged-key}
@@ -98,9 +99,9 @@ module _ {p : Pending} {s : State} {x : Run} {stable : ℕ → ℕ} (ok : RunOk 
         ]
 
     new-entry : is-local (s .job) (y .sender) (y .receiver) ≡ false → entry-of s y ≡ none → is-worked (s .live (y .receiver)) (y .sender) (y .sn) ≡ false
-        → admitted (s .live (y .receiver) .mark (y .sender)) (y .sn) ≡ true
+        → admitted (seen (s .live (y .receiver)) (y .sender) (y .sn)) ≡ true
         → NewEntry (world-now g) (y .receiver) (unreceived (y .sender) (y .sn) (new-tn (s .live (y .receiver))))
-    unfolding entry-of unreceived admitted
+    unfolding entry-of unreceived
     new-entry remote empty w a =
         let r = y .receiver in
         record {
@@ -110,7 +111,7 @@ module _ {p : Pending} {s : State} {x : Run} {stable : ℕ → ℕ} (ok : RunOk 
           free = subst (λ m. All (λ f. f .tn ≢ new-tn (s .live r)) (m .table)) (sym mem) (new-tn-free (s .live r));
           unknown = subst (λ m. All (λ f. entry-key f ≢ (y .sender, y .sn)) (m .table)) (sym mem) (entry-none (s .live r .table) (y .sender) (y .sn) empty);
           unworked = λ i. true-not-false (subst (λ m. is-worked m (y .sender) (y .sn) ≡ true) mem (in-worked {m = g .mem r} (g .inv .images .image r chare .marks) i)) w;
-          near = subst (λ m. y .sn ≤ m .mark (y .sender) + width) (sym mem) (leb-true _ _ a);
+          near = subst (λ m. y .sn ≤ m .mark (y .sender) + width) (sym mem) (admitted-near _ _ _ a);
           local = λ e. true-not-false refl e;
           unnoted = λ e. true-not-false e remote;
           next = λ e. true-not-false e remote;
@@ -118,7 +119,7 @@ module _ {p : Pending} {s : State} {x : Run} {stable : ℕ → ℕ} (ok : RunOk 
 
     -- a new ticket
     module _ (f : Fits (world-now g) (y .sender) (y .receiver) (y .sn) ASK) (empty : entry-of s y ≡ none) (w : is-worked (s .live (y .receiver)) (y .sender) (y .sn) ≡ false)
-        (a : admitted (s .live (y .receiver) .mark (y .sender)) (y .sn) ≡ true) where
+        (a : admitted (seen (s .live (y .receiver)) (y .sender) (y .sn)) ≡ true) where
       abbrev e : Entry
       e = unreceived (y .sender) (y .sn) (new-tn (s .live (y .receiver)))
 
@@ -144,7 +145,7 @@ module _ {p : Pending} {s : State} {x : Run} {stable : ℕ → ℕ} (ok : RunOk 
       )
 
     pub keep-ask : Fits (world-now g) (y .sender) (y .receiver) (y .sn) ASK → (o : Option Entry) → entry-of s y ≡ o → (w : Bool) → is-worked (s .live (y .receiver)) (y .sender) (y .sn) ≡ w
-        → (o ≡ none → w ≡ false → admitted (s .live (y .receiver) .mark (y .sender)) (y .sn) ≡ true) → Good p (ask s y o w) x stable
+        → (o ≡ none → w ≡ false → admitted (seen (s .live (y .receiver)) (y .sender) (y .sn)) ≡ true) → Good p (ask s y o w) x stable
     unfolding ask entry-of
     keep-ask f (some e) found w q a =
         let (i, b, c) = entry-some (s .live (y .receiver) .table) (y .sender) (y .sn) found in

@@ -13,7 +13,7 @@ use Rattle.protocol.specs.declared.Status.the-variants.{Down}
 use Rattle.protocol.specs.Parts.{State}
 use Rattle.protocol.specs.Setters.{with-wire}
 use Rattle.protocol.specs.Window.{admitted}
-use Rattle.protocol.specs.Packets.{kind, destination, goes-to, is-named, is-worked, entry-of, arrive, deliver}
+use Rattle.protocol.specs.Packets.{kind, destination, goes-to, is-named, seen, is-worked, entry-of, arrive, deliver}
 use Rattle.protocol.specs.Questions.{no-entry, needs-ticket, ticket-admitted}
 use Rattle.protocol.specs.CrashFree.{Run}
 use Rattle.protocol.specs.Recovery.Run.Facts.{RunOk}
@@ -27,7 +27,7 @@ use Rattle.protocol.specs.Recovery.Frames.Contents.{keep-ask, keep-old, 
 
 -- question 8, for an ASK without entry whose SN is not worked
 abbrev Admits : State → Packet → Content → Type 0
-Admits s y c = kind c ≡ 1 → entry-of s y ≡ none → is-worked (s .live (y .receiver)) (y .sender) (y .sn) ≡ false → admitted (s .live (y .receiver) .mark (y .sender)) (y .sn) ≡ true
+Admits s y c = kind c ≡ 1 → entry-of s y ≡ none → is-worked (s .live (y .receiver)) (y .sender) (y .sn) ≡ false → admitted (seen (s .live (y .receiver)) (y .sender) (y .sn)) ≡ true
 
 asked : (s : State) (y : Packet) → ticket-admitted s y ≡ true → Admits s y (y .content)
 unfolding ticket-admitted needs-ticket no-entry

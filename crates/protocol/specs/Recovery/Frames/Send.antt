@@ -7,7 +7,7 @@ use mathlib.Core.Option.{some, none}
 use Prim.Native.Nat.{ℕ, _+_, _≤_, _<_}
 use native.Mathlib.Omega.{arith}
 use lib.Dec.{eqb}
-use borrow.Author.Tests.{eqb-true, leb-true, le-ltb, eq-eqb}
+use borrow.Author.Tests.{eqb-true, le-ltb, eq-eqb}
 use Rattle.lists.specs.Tests.{either, true-not-false, eq?}
 use Rattle.lists.specs.Map.{upd, upd-same, upd-other, upd-upd, upd-comm, upd-ind}
 use Rattle.lists.specs.Lists.{_∈_, All, find, change1}
@@ -19,10 +19,11 @@ use Rattle.protocol.specs.Setters.{with-table, with-log, with-sn, with-l
 use Rattle.protocol.specs.Window.{admitted, width}
 use Rattle.protocol.specs.Tickets.{entry, for-message, new-tn, fill, filled}
 use Rattle.protocol.specs.Sending.{is-local, about, next-message, log-message, send-remote, local-entry, send-local}
-use Rattle.protocol.specs.Packets.{new-table}
+use Rattle.protocol.specs.Packets.{new-table, seen}
 use Rattle.protocol.specs.Restart.{is-ticketed-above}
 use Rattle.protocol.specs.CrashFree.{Run}
 use Rattle.protocol.specs.Recovery.Run.Facts.{Sent, RunOk}
+use Rattle.protocol.specs.Recovery.Laws.Look.{admitted-near}
 use Rattle.protocol.specs.Recovery.Laws.NewTicket.{new-tn-above, new-tn-free}
 use Rattle.protocol.specs.Recovery.Laws.Changes.{key-no}
 use Rattle.protocol.specs.Recovery.Laws.Lookups.{entry-some, entry-none, tests-entry, entry-key}
@@ -168,7 +169,7 @@ new-filled (x ∷ l) e s n v h k a b = rw (key-no (tests-entry s n) x (k x (here
 
 module _ {s : State} {x : Run} {stable : ℕ → ℕ} (ok : RunOk (s .job) x) (a r : ℕ) (l : List ℕ) (v h : ℕ) (g : Good (to-send a (r ∷ l) v h) s x stable)
     (u : s .status (s .job .home a) ≢ Down) (f : is-local (s .job) a r ≡ true) (empty : entry (s .live r .table) a (s .live a .sn r + 1) ≡ none)
-    (near : admitted (s .live r .mark a) (s .live a .sn r + 1) ≡ true) where
+    (near : admitted (seen (s .live r) a (s .live a .sn r + 1)) ≡ true) where
   abbrev sn : ℕ
   sn = s .live a .sn r + 1
 
@@ -189,7 +190,6 @@ module _ {s : State} {x : Run} {stable : ℕ → ℕ} (ok : RunOk (s .job) x) (a
   unknown = entry-none table a sn empty
 
   new-ticket : NewEntry (world-now g) r ticket
-  unfolding admitted
   new-ticket =
       let here-mem = live g r up-there in
       let from-mem = live g a u in
@@ -200,7 +200,7 @@ module _ {s : State} {x : Run} {stable : ℕ → ℕ} (ok : RunOk (s .job) x) (a
         free = subst (λ k. All (λ e. e .tn ≢ tn) (k .table)) (sym here-mem) (new-tn-free (s .live r));
         unknown = subst (λ k. All (λ e. entry-key e ≢ (a, sn)) (k .table)) (sym here-mem) unknown;
         unworked = λ i. let b = g .inv .ordered .worked r a sn (next-chare ok a r l v h g u) f i in let c = ap (λ k. k .sn r) from-mem in omega arith;
-        near = subst (λ k. sn ≤ k .mark a + width) (sym here-mem) (leb-true _ _ near);
+        near = subst (λ k. sn ≤ k .mark a + width) (sym here-mem) (admitted-near _ _ _ near);
         local = λ _. f;
         unnoted = λ _. refl;
         next = λ _. let c = ap (λ k. k .sn r) from-mem in omega arith;

@@ -15,6 +15,7 @@ use Rattle.protocol.specs.Parts.{State}
 use Rattle.protocol.specs.Window.{admitted}
 use Rattle.protocol.specs.Tickets.{entry}
 use Rattle.protocol.specs.Sending.{is-local, next-message, send-local, send-message, send, send-all}
+use Rattle.protocol.specs.Packets.{seen}
 use Rattle.protocol.specs.Questions.{sn-to-send, no-entry, takes-ticket, window-admits, put-to-all}
 use Rattle.protocol.specs.CrashFree.{Run}
 use Rattle.protocol.specs.Recovery.Run.Facts.{RunOk}
@@ -30,7 +31,7 @@ use Rattle.protocol.specs.Recovery.Invariant.Homes.{local-home}
 
 -- question 8 for a local send that finds no entry
 admits : (s : State) (a b : ℕ) → window-admits s a b ≡ true → is-local (s .job) a b ≡ true → entry (s .live b .table) a (s .live a .sn b + 1) ≡ none
-    → admitted (s .live b .mark a) (s .live a .sn b + 1) ≡ true
+    → admitted (seen (s .live b) a (s .live a .sn b + 1)) ≡ true
 unfolding window-admits takes-ticket sn-to-send no-entry
 admits s a b q l e = rw (l, e) at q
 

@@ -5,18 +5,19 @@ use mathlib.Core.Logic.{_≢_, _⊎_, inl, inr}
 use mathlib.Core.List.{List, [], _∷_, _++_, List·Memᴰ·head as here, List·Memᴰ·not-nil, Memᴰ·append-left, Memᴰ·append-right, List·Memᴰ·append-cases, List·Memᴰ·eq-of-singleton}
 use Prim.Native.Nat.{ℕ, zero, suc, _+_, _-_, _≤_, _<_}
 use native.Mathlib.Omega.{arith}
-use lib.Dec.{eqb, ltb, leb}
-use borrow.Author.Tests.{eqb-true, eq-eqb, lt-ltb, leb-true, le-leb}
-use Rattle.lists.specs.Tests.{either, true-not-false, lt?, and-l, and-r, and-i, or-cases, or-l, or-r}
+use lib.Dec.{eqb}
+use borrow.Author.Tests.{eqb-true, eq-eqb}
+use Rattle.lists.specs.Tests.{either, true-not-false, lt?, and-l, and-r, and-i}
 use Rattle.lists.specs.Map.{upd-other, upd-ind, upd-ind₂}
 use Rattle.lists.specs.Lists.{_∈_, anyb, anyb-true, true-anyb, Prefix}
 use Rattle.protocol.specs.declared.Message.{Message}
 use Rattle.protocol.specs.declared.Entry.{Entry}
 use Rattle.protocol.specs.Parts.{Memory}
-use Rattle.protocol.specs.Window.{Bits, admitted, worked, in-window, bit-set, ones, rise, risen-mark, slid-window, width}
+use Rattle.protocol.specs.Window.{Bits, worked, bit-set, ones, rise, risen-mark, slid-window, width}
 use Rattle.protocol.specs.Working.{work-entry}
 use Rattle.protocol.specs.Packets.{is-worked}
 use Rattle.protocol.specs.History.{message-of}
+use Rattle.protocol.specs.Recovery.Laws.Look.{look-low, worked-near, worked-bit, is-opened}
 
 -- ---- a message of sender s with SN n is in the list
 pub record In (l : List Message) (s n : ℕ) : Type 0 where
@@ -182,15 +183,15 @@ slide {k} {r} {w} {l} {s} run low bit out in-reach pos = record {
 -- one more message worked
 side-work : {k : ℕ} {w : Bits} {l : List Message} (x : Message) → Side k w l (x .sender) → 1 ≤ x .sn → has l (x .sender) (x .sn) ≡ false
     → x .sn ≤ k + width → Side (risen-mark k w (x .sn)) (slid-window k w (x .sn)) (l ++ (x ∷ [])) (x .sender)
-unfolding risen-mark slid-window rise in-window admitted bit-set
+unfolding risen-mark slid-window rise bit-set
 side-work {k} {w} {l} x h pos new near =
     let above : k < x .sn = elim (lt? k (x .sn)) [ inl a ↦ a | inr a ↦ absurd (has-false new (h .below (x .sn) pos a)) ] in
-    let inside : (ltb k (x .sn) && leb (x .sn) (k + width)) ≡ true = and-i _ _ (lt-ltb _ _ above) (le-leb _ _ near) in
-    rw inside (slide
+    let e : k + 1 + (x .sn - k - 1) ≡ x .sn = omega arith in
+    rw (is-opened k w (x .sn) above near (h .bits (x .sn - k - 1) (omega arith) ∙ ap (has l (x .sender)) e ∙ new)) (slide
     (ones-is width _)
     (λ n p q. in-append _ (h .below n p q))
     (upd-ind (λ i v. i < width → v ≡ has (l ++ (x ∷ [])) (x .sender) (k + 1 + i)) (x .sn - k - 1) true w
-    (λ _. let e : k + 1 + (x .sn - k - 1) ≡ x .sn = omega arith in sym (ap (has _ _) e ∙ true-has (in-last l x)))
+    (λ _. sym (ap (has _ _) e ∙ true-has (in-last l x)))
     (λ i d b. h .bits i b ∙ has-same l (l ++ (x ∷ [])) (x .sender) (k + 1 + i) (in-append _)
     (λ j. elim (in-snoc l x j) [ inl q ↦ q | inr q ↦ let e = q .1 in absurd (d (omega arith)) ])))
     (λ i b. upd-other _ _ _ i (λ (e : i ≡ x .sn - k - 1). omega arith) ∙ h .beyond i b)
@@ -223,26 +224,23 @@ marked-work {m} {l} h c e pos new near = sides (work-entry m e)
 
 -- ---- the test "worked" is being in the list
 pub worked-in : {m : Memory} {l : List Message} {s n : ℕ} → Marked m l → 1 ≤ n → is-worked m s n ≡ true → In l s n
-unfolding is-worked worked admitted
+unfolding is-worked
 worked-in {m} {l} {s} {n} h pos e = elim (lt? (m .mark s) n) [
-  | inl a ↦ elim (or-cases (leb n (m .mark s)) _ e) [
-    | inl p ↦ h .below s n pos (leb-true _ _ p)
-    | inr p ↦
-        let b : n ≤ m .mark s + width = leb-true _ _ (and-l (leb n (m .mark s + width)) _ p) in
-        let q : m .mark s + 1 + (n - m .mark s - 1) ≡ n = omega arith in
-        has-true l s n (sym (ap (has l s) q) ∙ sym (h .bits s (n - m .mark s - 1) (omega arith)) ∙ and-r (leb n (m .mark s + width)) _ p)
-  ]
+  | inl a ↦
+      let b = worked-near (m .mark s) (m .window s) n a e in
+      let q : m .mark s + 1 + (n - m .mark s - 1) ≡ n = omega arith in
+      has-true l s n (sym (ap (has l s) q) ∙ sym (h .bits s (n - m .mark s - 1) (omega arith)) ∙ sym (worked-bit (m .mark s) (m .window s) n a b) ∙ e)
   | inr a ↦ h .below s n pos a
 ]
 
 pub in-worked : {m : Memory} {l : List Message} {s n : ℕ} → Marked m l → In l s n → is-worked m s n ≡ true
-unfolding is-worked worked admitted
+unfolding is-worked worked
 in-worked {m} {l} {s} {n} h i = elim (lt? (m .mark s) n) [
   | inl a ↦
       let b = h .within s n i in
       let q : m .mark s + 1 + (n - m .mark s - 1) ≡ n = omega arith in
-      or-r (leb n (m .mark s)) _ (and-i _ _ (le-leb _ _ b) (h .bits s (n - m .mark s - 1) (omega arith) ∙ ap (has l s) q ∙ true-has i))
-  | inr a ↦ or-l _ _ (le-leb _ _ a)
+      worked-bit (m .mark s) (m .window s) n a b ∙ h .bits s (n - m .mark s - 1) (omega arith) ∙ ap (has l s) q ∙ true-has i
+  | inr a ↦ ap worked (look-low (m .mark s) (m .window s) n a)
 ]
 
 -- ---- SN n of s is at most the width of the window above a number up to which all are in the list

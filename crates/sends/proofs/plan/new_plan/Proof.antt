@@ -29,7 +29,7 @@ returns-2 c =
     let t = n .before .before in
     let a = t .before .before .args in
     unfold new-plan in
-    rw (table-part (a .y .now), ← t .top .ensures, ← m .mark .ensures, le-leb (next-tn (a .base) (t .top .result) (entries (part TABLE ROW (a .y .now)))) 60000 (omega (arith, n .next-tn .ensures, m .before .if1 .left)), ← n .next-tn .ensures, ← k .count .ensures, ← c .admitted .ensures)
+    rw (table-part (a .y .now), ← t .top .ensures, ← m .seen .ensures, le-leb (next-tn (a .base) (t .top .result) (entries (part TABLE ROW (a .y .now)))) 60000 (omega (arith, n .next-tn .ensures, m .before .if1 .left)), ← n .next-tn .ensures, ← k .count .ensures, ← c .admitted .ensures)
 
 pub new-plan-spec : {M : Type 1} → statement M
 new-plan-spec =
