@@ -1,11 +1,12 @@
 -- Two words as one number: a bit read and set, the run of ones, a shift.
-use Rattle.lists.specs.Basics.{_≡_, sym, _∙_, ap, true, ℕ, _+_, _-_, _*_, _/_, _%_, _^_, _<_, _≤_, arith, div-eq-of-lt, mod-lt}
+use Rattle.lists.specs.Basics.{_≡_, sym, _∙_, ap, true, ℕ, _+_, _-_, _*_, _/_, _%_, _^_, _<_, _≤_, arith, div-eq-of-lt, lt-of-lt-of-le}
 use Rattle.lists.specs.Map.{upd}
 use Rattle.protocol.specs.Window.{Bits, ones, width}
 use Rattle.window.specs.{Bits.bits, BitLaws.{set-bit, shift-bits, low-bits, high-bits, run-of-ones, ones-same, ones-stop, ones-on}}
+use native.Mathlib.Nat.{mul-assoc, mul-comm, add-mul, add-assoc, mul-add-div-right, pow-le-pow-right}
 use lib.Bits.{bitOr, or-block, or-zero-r, or-shifted-r}
 use lib.Count.{trailingZeros}
-use lib.Pow.{pow-add, pow-lt, shl-exact, shl-shr, shr-shr, shr-lt, split, high, low, mod-pow-add}
+use lib.Pow.{pow-add, pow-lt, shl-exact, shl-shr, shr-shr, shr-lt, split, high, low, mod-pow-add, ones-lt}
 
 -- the run of ones of a word
 abbrev pub word-run : ℕ → ℕ
@@ -66,7 +67,11 @@ module _ (lo hi : ℕ) (lo-in : lo < 2 ^ 64) where
         let zero-low : hi * 2 ^ u % 2 ^ u ≡ 0 = ap (λ n. n % 2 ^ u) (omega arith) ∙ low hi u (omega arith) in
         let moved : hi * 2 ^ u % 2 ^ 64 ≡ hi % 2 ^ t * 2 ^ u =
             ap (λ k. hi * 2 ^ u % 2 ^ k) (sym f) ∙ mod-pow-add (hi * 2 ^ u) t u ∙ rw (shl-shr hi u, zero-low) (omega arith) in
-        shifted _ (rw (moved, or-shifted-r (hi % 2 ^ t) u (lo / 2 ^ t) small) {!!})
+        let whole : hi / 2 ^ t * 2 ^ 64 + (hi % 2 ^ t * 2 ^ u + lo / 2 ^ t) ≡ hi * 2 ^ u + lo / 2 ^ t =
+            rw (p, ← (mul-assoc (hi / 2 ^ t) (2 ^ t) (2 ^ u)), ← (add-assoc (hi / 2 ^ t * 2 ^ t * 2 ^ u) (hi % 2 ^ t * 2 ^ u) (lo / 2 ^ t)), ← (add-mul (hi / 2 ^ t * 2 ^ t) (hi % 2 ^ t) (2 ^ u)), split hi t) in
+        let cut : v / 2 ^ t ≡ hi * 2 ^ u + lo / 2 ^ t =
+            rw (p, mul-comm (2 ^ t) (2 ^ u), ← (mul-assoc hi (2 ^ u) (2 ^ t))) (mul-add-div-right (omega (arith, ones-lt t)) (hi * 2 ^ u) lo) in
+        shifted _ (rw (moved, or-shifted-r (hi % 2 ^ t) u (lo / 2 ^ t) small) (whole ∙ sym cut))
 
     pub shift-word : 64 ≤ t → bits (0 * 2 ^ 64 + hi / 2 ^ (t - 64)) ≡ (λ i. bits v (t + i))
     shift-word h =
@@ -74,4 +79,8 @@ module _ (lo hi : ℕ) (lo-in : lo < 2 ^ 64) where
         shifted _ (ap (λ (n : ℕ). 0 + n / 2 ^ (t - 64)) (sym hi-is) ∙ omega arith ∙ shr-shr v 64 (t - 64) ∙ ap (λ k. v / 2 ^ k) e)
 
     pub shift-all : hi < 2 ^ 64 → 128 ≤ t → bits (0 * 2 ^ 64 + 0) ≡ (λ i. bits v (t + i))
-    shift-all g h = {!!}
+    shift-all g h =
+        let e : 64 + (t - 64) ≡ t = omega arith in
+        let long : 64 ≤ t - 64 = omega arith in
+        let small : hi < 2 ^ (t - 64) = lt-of-lt-of-le g (pow-le-pow-right (omega arith) long) in
+        shifted _ (sym (ap (λ k. v / 2 ^ k) (sym e) ∙ sym (shr-shr v 64 (t - 64)) ∙ rw hi-is (div-eq-of-lt small)))
