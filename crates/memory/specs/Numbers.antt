@@ -23,6 +23,9 @@ module _ (m : Memory) where
   abbrev with-maps : (ℕ → ℕ) → (ℕ → ℕ) → (ℕ → ℕ → Bool) → Memory
   with-maps sn mark window = record { state = m .state; height = m .height; sn = sn; mark = mark; window = window; highest-at-restart = m .highest-at-restart; table = m .table; log = m .log }
 
+  abbrev with-windows : (ℕ → ℕ → Bool) → Memory
+  with-windows = with-maps (m .sn) (m .mark)
+
   abbrev with-front : ℕ → ℕ → Memory
   with-front state height = record { state = state; height = height; sn = m .sn; mark = m .mark; window = m .window; highest-at-restart = m .highest-at-restart; table = m .table; log = m .log }
 
@@ -76,15 +79,13 @@ module _ (ws : List ℕ) (size : length ws ≡ MEMORY) (x : ℕ) where
       map-word i (omega arith) (omega arith) (part-set-behind SN 16 ws x i (omega arith)) (part-set MARK 16 ws x r h) (part-set-before LOW 16 ws x i (omega arith)) (part-set-before HIGH 16 ws x i (omega arith))
       ∙ rw (words-set MARK r h (omega arith) small)
 
-  low-set : (r : ℕ) → r < 16 → memory-view (set ws (LOW + r) x)
-      ≡ with-maps (memory-view ws) (memory-view ws .sn) (memory-view ws .mark) (windows (set (part LOW 16 ws) r x) (part HIGH 16 ws))
+  low-set : (r : ℕ) → r < 16 → memory-view (set ws (LOW + r) x) ≡ with-windows (memory-view ws) (windows (set (part LOW 16 ws) r x) (part HIGH 16 ws))
   unfolding memory-view
   low-set r h =
       let i = LOW + r in
       map-word i (omega arith) (omega arith) (part-set-behind SN 16 ws x i (omega arith)) (part-set-behind MARK 16 ws x i (omega arith)) (part-set LOW 16 ws x r h) (part-set-before HIGH 16 ws x i (omega arith))
 
-  high-set : (r : ℕ) → r < 16 → memory-view (set ws (HIGH + r) x)
-      ≡ with-maps (memory-view ws) (memory-view ws .sn) (memory-view ws .mark) (windows (part LOW 16 ws) (set (part HIGH 16 ws) r x))
+  high-set : (r : ℕ) → r < 16 → memory-view (set ws (HIGH + r) x) ≡ with-windows (memory-view ws) (windows (part LOW 16 ws) (set (part HIGH 16 ws) r x))
   unfolding memory-view
   high-set r h =
       let i = HIGH + r in
@@ -95,16 +96,16 @@ windows-set : (lows highs : List ℕ) (r : ℕ) (w : Window) → r < length lows
     → windows (set lows r (w .low)) (set highs r (w .high)) ≡ upd r (window-bits w) (windows lows highs)
 unfolding windows upd
 windows-set lows highs r w f g =
-    rw (arrays.map-set 0 lows r (w .low) f, arrays.map-set 0 highs r (w .high) g) (fun-ext (λ s. either (eqb s r) (λ e. rw e) (λ e. rw e)))
+    (λ i s. window-bits (record { low = arrays.map-set 0 lows r (w .low) f i s; high = arrays.map-set 0 highs r (w .high) g i s }))
+    ∙ fun-ext (λ s. either (eqb s r) (λ e. rw e) (λ e. rw e))
 
-window-set : (ws : List ℕ) → length ws ≡ MEMORY → (r : ℕ) (w : Window) → r < 16 → memory-view (set (set ws (LOW + r) (w .low)) (HIGH + r) (w .high))
-    ≡ with-maps (memory-view ws) (memory-view ws .sn) (memory-view ws .mark) (upd r (window-bits w) (memory-view ws .window))
+window-set : (ws : List ℕ) → length ws ≡ MEMORY → (r : ℕ) (w : Window) → r < 16
+    → memory-view (set (set ws (LOW + r) (w .low)) (HIGH + r) (w .high)) ≡ with-windows (memory-view ws) (upd r (window-bits w) (memory-view ws .window))
 unfolding memory-view
 window-set ws size r w h =
     high-set (set ws (LOW + r) (w .low)) (simp length-set size) (w .high) r h
-    ∙ rw (low-set ws size (w .low) r h, part-set LOW 16 ws (w .low) r h, part-set-before HIGH 16 ws (w .low) (LOW + r) (omega arith))
-    (ap (with-maps (memory-view ws) (memory-view ws .sn) (memory-view ws .mark))
-    (windows-set (part LOW 16 ws) (part HIGH 16 ws) r w (omega (arith, part-length LOW 16 ws (omega arith))) (omega (arith, part-length HIGH 16 ws (omega arith)))))
+    ∙ (λ i. with-windows (low-set ws size (w .low) r h i) (windows (part-set LOW 16 ws (w .low) r h i) (set (part-set-before HIGH 16 ws (w .low) (LOW + r) (omega arith) i) r (w .high))))
+    ∙ ap (with-windows (memory-view ws)) (windows-set (part LOW 16 ws) (part HIGH 16 ws) r w (omega (arith, part-length LOW 16 ws (omega arith))) (omega (arith, part-length HIGH 16 ws (omega arith))))
 
 -- the first two words
 front-set : (ws : List ℕ) → length ws ≡ MEMORY → (a b : ℕ) → a < 4294967296 → b < 65536 → memory-view (set (set ws STATE a) HEIGHT b) ≡ with-front (memory-view ws) a b

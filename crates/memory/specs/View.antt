@@ -66,7 +66,10 @@ module _ (ws : List ℕ) where
 
     pub no-window : length ws ≡ MEMORY → 16 ≤ s → window-bits (record { low = 0; high = 0 }) ≡ memory-view ws .window s
     unfolding memory-view windows
-    no-window size h = let past = λ b (f : b + 16 ≤ MEMORY). map-beyond 0 (part b 16 ws) s (omega (arith, part-length b 16 ws (omega arith))) in rw (past LOW (omega arith), past HIGH (omega arith))
+    no-window size h = rw (past LOW (omega arith), past HIGH (omega arith))
+      where
+        past : (b : ℕ) → b + 16 ≤ MEMORY → as-map 0 (part b 16 ws) s ≡ 0
+        past b f = map-beyond 0 (part b 16 ws) s (omega (arith, part-length b 16 ws (omega arith)))
 
 -- ---- a row put anew
 module _ (ws ys : List ℕ) (size : length ws ≡ MEMORY) (long : length ys ≡ ROW) where

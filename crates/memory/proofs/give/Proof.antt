@@ -11,6 +11,9 @@ slice-write-m-3 c = simp length-set (omega arith)
 slice-write-m-4 : tie.Need-slice-write-m-4
 slice-write-m-4 c = simp length-set (omega arith)
 
+slice-write-m-5 : tie.Need-slice-write-m-5
+slice-write-m-5 c = simp length-set (omega arith)
+
 same-length : tie.Need-same-length
 same-length c = simp length-set
 
@@ -29,5 +32,8 @@ give-spec =
     (λ c. search needs)
     (λ c. search needs)
     slice-write-m-4
+    (λ c. search needs)
+    (λ c. search needs)
+    slice-write-m-5
     same-length
     returns)

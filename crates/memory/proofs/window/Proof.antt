@@ -12,4 +12,14 @@ returns-2 : tie.Need-returns-2
 returns-2 c = window-at _ _ (search needs)
 
 pub window-spec : {M : Type 1} → statement M
-window-spec = tie.close (tie.spec returns (λ c. search needs) (λ c. search needs) (λ c. search needs) returns-2)
+window-spec =
+    tie.close
+    (tie.spec
+    returns
+    (λ c. search needs)
+    (λ c. search needs)
+    (λ c. search needs)
+    (λ c. search needs)
+    (λ c. search needs)
+    (λ c. search needs)
+    returns-2)
