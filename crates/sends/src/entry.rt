@@ -34,12 +34,13 @@ pub fn work_entry(x: Numbers, e: Entry) -> Worked
     if 60000 < d.mark {
         return refused(x, 7);
     }
+    let window = d.window;
     let state = (x.state % 4294967296) as u32;
     let numbers = Numbers {
         state: window::work(state, e.value) as u64,
         height: height as u64 + 1,
         mark: d.mark as u64,
-        window: d.window,
+        window,
     };
     Worked { answer: 0, numbers }
 }

@@ -129,7 +129,6 @@ ask-spec =
     (λ c κs. search needs)
     (λ c κs. search needs)
     (λ c κs. search needs)
-    (λ c κs. search needs)
     (λ c. search needs)
     returns-2
     (λ c κs. search needs)

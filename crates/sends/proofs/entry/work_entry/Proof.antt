@@ -34,7 +34,7 @@ returns-3 c =
 returns-4 : tie.Need-returns-4
 returns-4 c =
     let w = c .before in
-    let k = w .before .before in
+    let k = w .before .before .before in
     let d = k .before .before in
     let h = d .before .before in
     let i = h .before .before in
