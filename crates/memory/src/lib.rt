@@ -83,9 +83,10 @@ fn window(m: &[u64], sender: u8) -> Window
     if 16 <= sender {
         return Window { low: 0, high: 0 };
     }
+    let i = sender as usize;
     Window {
-        low: m[LOW + sender as usize],
-        high: m[HIGH + sender as usize],
+        low: m[LOW + i],
+        high: m[HIGH + i],
     }
 }
 

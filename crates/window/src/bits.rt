@@ -44,9 +44,9 @@ pub fn set(w: Window, k: u16) -> Window
 pub fn run(w: Window) -> u32
     ensures { λ r. ⌜ r ≡ ones width (window-bits w) ⌝ }
 {
-    let t = u64::trailing_zeros(!w.low);
-    if t < 64 {
-        return t;
+    let ones = u64::trailing_zeros(!w.low);
+    if ones < 64 {
+        return ones;
     }
     64 + u64::trailing_zeros(!w.high)
 }
