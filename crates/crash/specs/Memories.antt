@@ -1,5 +1,5 @@
 -- The loops that clear the memories of a machine's chares, and the copies that it keeps.
-use Rattle.lists.specs.Basics.{_≡_, refl, sym, ap, _∙_, Bool, true, false, _≢_, List, [], ℕ, _+_, _<_, _≤_, arith, eq-eqb, ne-eqb, eqb, length, replicate}
+use Rattle.lists.specs.Basics.{_≡_, refl, sym, ap, _∙_, Bool, true, false, _≢_, List, ℕ, _+_, _<_, _≤_, arith, eq-eqb, ne-eqb, eqb, length, replicate}
 use Rattle.protocol.specs.{Parts.{State, Memory, blank, on, at-home}, Setters.{with-live, with-copies}, Crash.{kept-by, crash}}
 use Rattle.words.specs.Part.{part, part-length, put}
 use Rattle.head.specs.Head.{job-of}

@@ -3,7 +3,7 @@
 use Rattle.lists.specs.Basics.{_≡_, refl, sym, ap, _∙_, List, map, ℕ, _+_, _%_, _≤_, _<_, arith, length, getD, length-map, List·getD-map}
 use Rattle.arrays.specs.ArrayMap.{as-map, map-beyond}
 use Rattle.protocol.specs.{declared.Entry.Entry, declared.Logged.Logged, Window.Bits, Parts.Memory, Setters.{with-table, with-log}}
-use Rattle.window.specs.{declared.bits.Window.Window, Bits.window-bits}
+use Rattle.window.specs.Bits.{window-bits}
 use Rattle.words.specs.Part.{part, put, part-at, part-length, part-put, part-before, part-behind}
 use Rattle.memory.specs.Places.{STATE, HEIGHT, TOP, NUMBERS, SN, MARK, LOW, HIGH, TABLE, ROW, LOG, MEMORY}
 use Rattle.tickets.specs.Table as tickets

@@ -1,16 +1,19 @@
 -- Two words as one number: a bit read and set, the run of ones, a shift.
 use Rattle.lists.specs.Basics.{_≡_, sym, _∙_, ap, true, ℕ, _+_, _-_, _*_, _/_, _%_, _^_, _<_, _≤_, arith, div-eq-of-lt, lt-of-lt-of-le}
 use Rattle.lists.specs.Map.{upd}
-use Rattle.protocol.specs.Window.{Bits, ones, width}
-use Rattle.window.specs.{Bits.bits, BitLaws.{set-bit, shift-bits, low-bits, high-bits, run-of-ones, ones-same, ones-stop, ones-on}}
+use Rattle.protocol.specs.Window.{ones, width}
+use Rattle.window.specs.{Bits.bits, BitLaws.{set-bit, shift-bits, low-bits, run-of-ones, ones-same, ones-stop, ones-on}}
 use native.Mathlib.Nat.{mul-assoc, mul-comm, add-mul, add-assoc, mul-add-div-right, pow-le-pow-right}
 use lib.Bits.{bitOr, or-block, or-zero-r, or-shifted-r}
-use lib.Count.{trailingZeros}
+use lib.Count.{trailingZeros, trailing-le}
 use lib.Pow.{pow-add, pow-lt, shl-exact, shl-shr, shr-shr, shr-lt, split, high, low, mod-pow-add, ones-lt}
 
 -- the run of ones of a word
 abbrev pub word-run : ℕ → ℕ
 word-run w = trailingZeros 64 ((2 ^ 64 - 1) - w)
+
+pub word-run-top : (w : ℕ) → word-run w ≤ 64
+word-run-top w = trailing-le 64 ((2 ^ 64 - 1) - w)
 
 module _ (lo hi : ℕ) (lo-in : lo < 2 ^ 64) where
   abbrev v : ℕ
@@ -66,11 +69,11 @@ module _ (lo hi : ℕ) (lo-in : lo < 2 ^ 64) where
         let small : lo / 2 ^ t < 2 ^ u = shr-lt u t (rw e lo-in) in
         let zero-low : hi * 2 ^ u % 2 ^ u ≡ 0 = ap (λ n. n % 2 ^ u) (omega arith) ∙ low hi u (omega arith) in
         let moved : hi * 2 ^ u % 2 ^ 64 ≡ hi % 2 ^ t * 2 ^ u =
-            ap (λ k. hi * 2 ^ u % 2 ^ k) (sym f) ∙ mod-pow-add (hi * 2 ^ u) t u ∙ rw (shl-shr hi u, zero-low) (omega arith) in
+        ap (λ k. hi * 2 ^ u % 2 ^ k) (sym f) ∙ mod-pow-add (hi * 2 ^ u) t u ∙ rw (shl-shr hi u, zero-low) (omega arith) in
         let whole : hi / 2 ^ t * 2 ^ 64 + (hi % 2 ^ t * 2 ^ u + lo / 2 ^ t) ≡ hi * 2 ^ u + lo / 2 ^ t =
-            rw (p, ← (mul-assoc (hi / 2 ^ t) (2 ^ t) (2 ^ u)), ← (add-assoc (hi / 2 ^ t * 2 ^ t * 2 ^ u) (hi % 2 ^ t * 2 ^ u) (lo / 2 ^ t)), ← (add-mul (hi / 2 ^ t * 2 ^ t) (hi % 2 ^ t) (2 ^ u)), split hi t) in
+        rw (p, ← (mul-assoc (hi / 2 ^ t) (2 ^ t) (2 ^ u)), ← (add-assoc (hi / 2 ^ t * 2 ^ t * 2 ^ u) (hi % 2 ^ t * 2 ^ u) (lo / 2 ^ t)), ← (add-mul (hi / 2 ^ t * 2 ^ t) (hi % 2 ^ t) (2 ^ u)), split hi t) in
         let cut : v / 2 ^ t ≡ hi * 2 ^ u + lo / 2 ^ t =
-            rw (p, mul-comm (2 ^ t) (2 ^ u), ← (mul-assoc hi (2 ^ u) (2 ^ t))) (mul-add-div-right (omega (arith, ones-lt t)) (hi * 2 ^ u) lo) in
+        rw (p, mul-comm (2 ^ t) (2 ^ u), ← (mul-assoc hi (2 ^ u) (2 ^ t))) (mul-add-div-right (omega (arith, ones-lt t)) (hi * 2 ^ u) lo) in
         shifted _ (rw (moved, or-shifted-r (hi % 2 ^ t) u (lo / 2 ^ t) small) (whole ∙ sym cut))
 
     pub shift-word : 64 ≤ t → bits (0 * 2 ^ 64 + hi / 2 ^ (t - 64)) ≡ (λ i. bits v (t + i))

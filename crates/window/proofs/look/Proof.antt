@@ -1,6 +1,6 @@
 -- `look`: at or below the mark, beyond the window, or by the bit.
-use Rattle.lists.specs.Basics.{_≡_, sym, _∙_, true, false, cond, _+_, _-_, arith, needs, ap}
-use Rattle.protocol.specs.{declared.Seen.the-variants.{Worked, Open}, Window.width, Recovery.Laws.Look.{look-low, look-bit, look-far}}
+use Rattle.lists.specs.Basics.{sym, _∙_, _-_, arith, needs}
+use Rattle.protocol.specs.Recovery.Laws.Look.{look-low, look-bit, look-far}
 use Rattle.window.specs.Bits.{window-bits}
 use Rattle.window.proofs.look.Statement.{statement}
 use Rattle.window.proofs.look.Tie as tie

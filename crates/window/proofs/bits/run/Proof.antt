@@ -1,7 +1,6 @@
 -- `run`: the low word's run, and the high one's behind it where the low word is all ones.
-use Rattle.lists.specs.Basics.{_-_, _^_, arith, needs}
-use Rattle.window.specs.{Bits.window-bits, Words.{run-stops, run-goes-on}}
-use lib.Count.{trailing-le}
+use Rattle.lists.specs.Basics.{needs}
+use Rattle.window.specs.{Bits.window-bits, Words.{word-run-top, run-stops, run-goes-on}}
 use Rattle.window.proofs.bits.run.Statement.{statement}
 use Rattle.window.proofs.bits.run.Tie as tie
 
@@ -10,7 +9,7 @@ unfolding window-bits
 returns c = let a = c .before .before .args in run-stops (a .w .low) (a .w .high) (search needs) (c .if1 .taken)
 
 add-result : tie.Need-add-result
-add-result c = let a = c .before .before .before .args in search (needs, trailing-le 64 ((2 ^ 64 - 1) - a .w .high))
+add-result c = let w = c .before .before .before .args .w in search (needs, word-run-top (w .low), word-run-top (w .high))
 
 returns-2 : tie.Need-returns-2
 unfolding window-bits

@@ -1,5 +1,5 @@
 -- `set`: the bit goes into the low word below 64, else into the high one.
-use Rattle.lists.specs.Basics.{_≡_, _∙_, ap, true, ℕ, _+_, _-_, arith, needs}
+use Rattle.lists.specs.Basics.{_≡_, _∙_, ap, true, _+_, _-_, arith, needs}
 use Rattle.lists.specs.Map.{upd}
 use Rattle.window.specs.{Bits.window-bits, Words.{set-low, set-high}}
 use Rattle.window.proofs.bits.set.Statement.{statement}
