@@ -6,6 +6,7 @@ pub mod Steps
 pub mod Frames
 pub mod Conclusion
 pub mod Along
+pub mod Settled
 pub mod LostFlag
 pub mod Holes
 pub mod Kept

@@ -9,7 +9,7 @@ use Rattle.protocol.specs.declared.Rule.the-variants.{AskFound, AskWorke
 use Rattle.protocol.specs.declared.Answer.{Answer}
 use Rattle.protocol.specs.declared.Answer.the-variants.{Accepted, Shown, Lost, Refused}
 use Rattle.protocol.specs.Parts.{State, start}
-use Rattle.protocol.specs.Frames.{Line, Frame, job, inject, deliver, work, checkpoint, crash, restart, show, frame}
+use Rattle.protocol.specs.Frames.{Line, Frame, job, inject, deliver, work, checkpoint, crash, restart, show, withdraw, frame}
 use Rattle.protocol.specs.Lines.{newline, extend, lines, printed-digit, hexadecimal, two-decimals, line-01, letter, ending, line, print}
 use Rattle.protocol.specs.Questions as questions
 use Rattle.protocol.specs.Step.{Outcome, accept, crash-outcome, deliver-outcome, work-outcome, outcome, judged, play, step-frame, step, answers-from, answers, answers-01}
@@ -117,7 +117,7 @@ entry-told s c none = refl
 entry-told s c (some e) = refl
 
 all-told : (s : State) (f : Frame) → told (questions.questions s f) ≡ true
-unfolding questions.questions questions.job-questions questions.inject-questions questions.deliver-questions questions.work-questions questions.checkpoint-questions questions.crash-questions questions.restart-questions questions.show-questions begins-with-00 two-decimals
+unfolding questions.questions questions.job-questions questions.inject-questions questions.deliver-questions questions.work-questions questions.checkpoint-questions questions.crash-questions questions.restart-questions questions.show-questions questions.withdraw-questions begins-with-00 two-decimals
 all-told s (job b) = refl
 all-told s (inject c value hops) = refl
 all-told s (deliver k a r n) = packet-told s _
@@ -126,6 +126,7 @@ all-told s (checkpoint p) = refl
 all-told s (crash p) = refl
 all-told s (restart p) = refl
 all-told s (show c) = refl
+all-told s (withdraw c) = refl
 
 judged-dropped : (s : State) (l : List Question) (o : Outcome) → told l ≡ true → Dropped (o .answer) → Dropped (judged s (put-all l o) .answer)
 unfolding judged put-all
@@ -159,6 +160,7 @@ outcome-dropped s (checkpoint p) = accepted _
 outcome-dropped s (crash p) = crash-dropped s p _
 outcome-dropped s (restart p) = accepted _
 outcome-dropped s (show c) = shown _ _
+outcome-dropped s (withdraw c) = accepted _
 
 frame-dropped : (s : State) (f : Option Frame) → Dropped (step-frame s f .answer)
 unfolding step-frame play

@@ -11,7 +11,7 @@ use Rattle.lists.specs.Questions.{put-all}
 use Rattle.protocol.specs.declared.Answer.{Answer}
 use Rattle.protocol.specs.declared.Answer.the-variants.{Refused}
 use Rattle.protocol.specs.Parts.{Job, State}
-use Rattle.protocol.specs.Frames.{Line, Frame, job, inject, deliver, work, checkpoint, crash, restart, show, frame, between, is-whole}
+use Rattle.protocol.specs.Frames.{Line, Frame, job, inject, deliver, work, checkpoint, crash, restart, show, withdraw, frame, between, is-whole}
 use Rattle.protocol.specs.Job.{machines-of, buddy-byte, job-in-range, has-machine, job-of, begin}
 use Rattle.protocol.specs.Questions.{questions}
 use Rattle.protocol.specs.Step.{Outcome, accept, judged, play, answers-from}
@@ -61,6 +61,7 @@ play-before s (checkpoint p) = play s (checkpoint p)
 play-before s (crash p) = play s (crash p)
 play-before s (restart p) = play s (restart p)
 play-before s (show c) = play s (show c)
+play-before s (withdraw c) = play s (withdraw c)
 
 unfoldable pub step-before : State → Option Frame → Outcome
 step-before s none = record { state = s; answer = Refused 1 }
@@ -92,6 +93,7 @@ spelt (checkpoint p) = checkpoint p
 spelt (crash p) = crash p
 spelt (restart p) = restart p
 spelt (show c) = show c
+spelt (withdraw c) = withdraw c
 
 unfoldable pub spelt-frame : Option Frame → Option Frame
 spelt-frame none = none

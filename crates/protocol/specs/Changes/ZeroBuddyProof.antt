@@ -187,7 +187,8 @@ module _ (s : State) where
       (λ e. rw e (either (eqb k 0x14) (λ e. rw e)
       (λ e. rw e (either (eqb k 0x15) (λ e. rw e)
       (λ e. rw e (either (eqb k 0x16) (λ e. rw e)
-      (λ e. rw e)))))))))))))))
+      (λ e. rw e (either (eqb k 0x17) (λ e. rw e)
+      (λ e. rw e)))))))))))))))))
 
   same-frame : (o : Option (List ℕ)) → step-frame s (spelt-frame (frame-of o)) ≡ step-before s (frame-of o)
   unfolding frame-of spelt-frame step-frame step-before

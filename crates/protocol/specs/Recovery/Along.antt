@@ -12,7 +12,7 @@ use Rattle.protocol.specs.declared.Packet.{Packet}
 use Rattle.protocol.specs.Parts.{State}
 use Rattle.protocol.specs.Setters.{with-lost, with-status}
 use Rattle.protocol.specs.Restart.{is-done, settle-machine, settle-all, settle}
-use Rattle.protocol.specs.Frames.{Line, Frame, job, inject, deliver, work, checkpoint, crash, restart, show, frame}
+use Rattle.protocol.specs.Frames.{Line, Frame, job, inject, deliver, work, checkpoint, crash, restart, show, withdraw, frame}
 use Rattle.protocol.specs.Questions.{questions}
 use Rattle.protocol.specs.Step.{Outcome, accept, crash-outcome, deliver-outcome, work-outcome, outcome, judged, play, step-frame, step, play-all}
 use Rattle.protocol.specs.History.{is-accepted}
@@ -57,6 +57,7 @@ taken s (checkpoint p) = inl refl
 taken s (crash p) = taken-crash s p _
 taken s (restart p) = inl refl
 taken s (show c) = inl refl
+taken s (withdraw c) = inl refl
 
 -- what every accepted frame keeps, and the lost flag, is kept along a list
 module _ {H : Type 0} (change : State → H → Frame → H) (P : State → H → Type 0)

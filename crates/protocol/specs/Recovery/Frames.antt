@@ -12,3 +12,5 @@ pub mod Settle
 pub mod Grow
 pub mod Checkpoint
 pub mod CrashTold
+pub mod Waiting
+pub mod Withdraw

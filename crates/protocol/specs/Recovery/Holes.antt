@@ -15,7 +15,7 @@ use Rattle.protocol.specs.Tickets.{has-tn, highest, lowest-hole, new-tn}
 use Rattle.protocol.specs.Sending.{send}
 use Rattle.protocol.specs.Working.{next-entry, worked-only, receivers-of, value-out, hops-out}
 use Rattle.protocol.specs.Restart.{restored}
-use Rattle.protocol.specs.Frames.{Line, Frame, job, inject, deliver, work, checkpoint, crash, restart, show}
+use Rattle.protocol.specs.Frames.{Line, Frame, job, inject, deliver, work, checkpoint, crash, restart, show, withdraw}
 use Rattle.protocol.specs.Questions.{takes-ticket, needs-ticket, on-wire}
 use Rattle.protocol.specs.History.{state-after}
 use Rattle.protocol.specs.Recovery.Along.{along}
@@ -62,6 +62,7 @@ change-holes s h (checkpoint p) = h
 change-holes s h (crash p) = at-home (s .job) p (λ c g t. false) h
 change-holes s h (restart p) = at-home (s .job) p (λ c g. restart-holes (restored s p c)) h
 change-holes s h (show c) = h
+change-holes s h (withdraw c) = h
 
 unfoldable pub holes-after : List Line → Holes
 holes-after moment = along change-holes start no-holes moment

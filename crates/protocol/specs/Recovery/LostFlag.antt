@@ -20,6 +20,7 @@ use Rattle.protocol.specs.Packets.{deliver}
 use Rattle.protocol.specs.Checkpoint as checkpoints
 use Rattle.protocol.specs.Crash as crashes
 use Rattle.protocol.specs.Restart as restarts
+use Rattle.protocol.specs.Withdraw as withdrawals
 use Rattle.protocol.specs.Frames as frames
 use Rattle.protocol.specs.Frames.{Line, Frame, frame}
 use Rattle.protocol.specs.Job.{begin}
@@ -66,7 +67,7 @@ crashed s p false = inr (record { flag = refl; ff = refl })
 
 -- question 4 is put to a job too, so nothing is forgotten
 all-yes : (s : State) (f : Frame) → Yes (questions.questions s f) → Flagged s (outcome s f)
-unfolding outcome questions.questions questions.job-questions begin checkpoints.checkpoint checkpoints.clean-logs checkpoints.fix-copy checkpoints.prune restarts.restart restarts.restore
+unfolding outcome questions.questions questions.job-questions begin checkpoints.checkpoint checkpoints.clean-logs checkpoints.fix-copy checkpoints.prune restarts.restart restarts.restore withdrawals.withdraw withdrawals.take-back
 all-yes s (frames.job b) y = accepted s (begin b) (sym (not-true (s .lost) (y .1 .1 .0)))
 all-yes s (frames.inject c value hops) y = accepted s _ (calm-send s 0 c value hops .lost)
 all-yes s (frames.deliver k a r n) y = delivered s k a r n _
@@ -75,6 +76,7 @@ all-yes s (frames.checkpoint p) y = accepted s _ refl
 all-yes s (frames.crash p) y = crashed s p _
 all-yes s (frames.restart p) y = accepted s _ refl
 all-yes s (frames.show c) y = inl (record { flag = ap (λ s. s .lost) (settled s); other = λ q. absurd (let z : _≡_ {A = ℕ} 0 1 = cc in omega arith) })
+all-yes s (frames.withdraw c) y = accepted s _ refl
 
 left : (s : State) (f : Frame) (r : Result Outcome) → put-all (questions.questions s f) (outcome s f) ≡ r → Flagged s (judged s r)
 unfolding judged

@@ -22,6 +22,7 @@ use Rattle.protocol.specs.Packets as packets
 use Rattle.protocol.specs.Checkpoint as checkpoints
 use Rattle.protocol.specs.Crash as crashes
 use Rattle.protocol.specs.Restart as restarts
+use Rattle.protocol.specs.Withdraw as withdrawals
 use Rattle.protocol.specs.Frames as frames
 use Rattle.protocol.specs.Frames.{Line, Frame}
 use Rattle.protocol.specs.Job.{has-chare, new-memory, first-memory, begin}
@@ -141,6 +142,13 @@ kept-restart {s} k p =
     kept-wire r (all-append (restarts.restore s p .wire) (r .wire)
     (λ y i. let z = resends-mem (restarts.restore s p) p i in resent-fits (r .live (z .place) .log (z .logged) (z .member) .0) (z .cause)))
 
+kept-withdraw : {s : State} {h : Holes} → Kept s h → (c n : ℕ) → Kept (withdrawals.take-back s c n) h
+unfolding withdrawals.take-back
+kept-withdraw {s} k c n =
+    let m = k .live 0 in
+    kept-wire (kept-memory k 0 (record { marks = m .marks; table = m .table; log = λ x i. m .log x (remove1-mem _ (s .live 0 .log) i) }) (λ t. refl))
+    (λ y i. k .wire y (keep-mem _ (s .wire) i .0))
+
 kept-job : (b : List ℕ) → Kept (begin b) no-holes
 unfolding begin first-memory new-memory blank no-holes
 kept-job b = record {
@@ -158,7 +166,7 @@ kept-crashed k p true a = kept-accept (kept-crash k p)
 kept-crashed k p false a = true-not-false a refl
 
 kept-frame : (s : State) (h : Holes) (f : Frame) → Kept s h → Yes (questions.questions s f) → is-accepted (outcome s f .answer) ≡ true → Kept (outcome s f .state) (change-holes s h f)
-unfolding outcome change-holes give-sent questions.questions questions.inject-questions questions.deliver-questions questions.work-questions accept checkpoints.checkpoint
+unfolding outcome change-holes give-sent questions.questions questions.inject-questions questions.deliver-questions questions.work-questions accept checkpoints.checkpoint withdrawals.withdraw
 kept-frame s h (frames.job b) k y a = kept-accept (kept-job b)
 kept-frame s h (frames.inject c value hops) k y a = kept-accept (kept-send k 0 c value hops (y .1 .1 .1 .0))
 kept-frame s h (frames.deliver q x r n) k y a = kept-packet k q x r n (questions.on-wire s q x r n) refl (y .1 .1 .1 .1)
@@ -167,6 +175,7 @@ kept-frame s h (frames.checkpoint p) k y a = kept-accept (kept-clean (kept-copy 
 kept-frame s h (frames.crash p) k y a = kept-crashed k p (crashes.has-cover s p) a
 kept-frame s h (frames.restart p) k y a = kept-accept (kept-restart k p)
 kept-frame s h (frames.show c) k y a = kept-accept k
+kept-frame s h (frames.withdraw c) k y a = kept-accept (kept-withdraw k c _)
 
 -- ---- a list begun before any job
 kept-after : (moment : List Line) → Kept (state-after moment) (holes-after moment)

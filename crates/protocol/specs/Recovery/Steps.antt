@@ -9,6 +9,7 @@ pub mod Log
 pub mod Notes
 pub mod Grow
 pub mod Inject
+pub mod Withdraw
 pub mod WorkRun
 pub mod WorkTable
 pub mod WorkImage

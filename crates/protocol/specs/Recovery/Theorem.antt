@@ -25,7 +25,8 @@ use Rattle.protocol.specs.Packets as packets
 use Rattle.protocol.specs.Checkpoint as checkpoints
 use Rattle.protocol.specs.Crash as crashes
 use Rattle.protocol.specs.Restart as restarts
-use Rattle.protocol.specs.Frames.{Line, Frame, job, inject, deliver, work, checkpoint, crash, restart, show, frame}
+use Rattle.protocol.specs.Withdraw as withdrawals
+use Rattle.protocol.specs.Frames.{Line, Frame, job, inject, deliver, work, checkpoint, crash, restart, show, withdraw, frame}
 use Rattle.protocol.specs.Job.{machines-of, job-in-range, job-of, begin}
 use Rattle.protocol.specs.Questions as questions
 use Rattle.protocol.specs.Step.{Outcome, accept, crash-outcome, deliver-outcome, work-outcome, outcome, judged, play, step-frame, step, play-all}
@@ -34,11 +35,14 @@ use Rattle.protocol.specs.History.{History, no-history, add-worked, reco
 use Rattle.protocol.specs.Demand3.{Normal, Begins, Demand3}
 use Rattle.protocol.specs.Recovery.Run.Facts.{RunOk}
 use Rattle.protocol.specs.Recovery.Invariant.World.{nothing-pending}
-use Rattle.protocol.specs.Recovery.Invariant.Clauses.{Chare}
+use Rattle.protocol.specs.Recovery.Invariant.Clauses.{Chare, Waiting}
 use Rattle.protocol.specs.Recovery.Laws.Restored.{restored-table-same}
 use Rattle.protocol.specs.Recovery.Invariant.Good.{Good, Told, Carried}
 use Rattle.protocol.specs.Recovery.Frames.States.{is-up}
 use Rattle.protocol.specs.Recovery.Frames.Deliver.{keep-deliver}
+use Rattle.protocol.specs.Recovery.Frames.Waiting.{deliver-waits, checkpoint-waits, crash-waits, restart-waits}
+use Rattle.protocol.specs.Recovery.Frames.Withdraw.{withdraw-frame}
+use Rattle.protocol.specs.Recovery.Along.{settled}
 use Rattle.protocol.specs.Recovery.Frames.Calm.{calm-told, calm-send-all, calm-deliver}
 use Rattle.protocol.specs.Recovery.Frames.Grow.{Onward, inject-frame, work-step-frame}
 use Rattle.protocol.specs.Recovery.Frames.Checkpoint.{checkpoint-good, checkpoint-told, checkpoint-job, checkpoint-status}
@@ -122,6 +126,7 @@ finish k {t} {h′} o r =
           chares = c .chares;
           good = d .good;
           told = d .told;
+          waiting = subst (λ (t : State). Waiting (c .run) (t .live 0 .log)) (sym (settled t)) (c .waiting);
           is-run = subst (λ j. crash-free (ports j) (h′ .injections) (c .works) ≡ some (c .run)) (sym (d .job)) (c .is-run);
         };
         ranged = record {
@@ -155,6 +160,9 @@ module _ {s : State} {h : History} (k : Kept s h) where
   unfolding questions.is-machine
   machine-is p e = between-true 1 (s .job .machines) p e
 
+  not-the-desk : (p : ℕ) → questions.is-machine s p ≡ true → s .job .home 0 ≢ p
+  not-the-desk p e d = let (a, _) = machine-is p e in let z = k .carried .good .inv .job .desk in omega arith
+
   is-known : (p : ℕ) → questions.is-machine s p ≡ true → p ∈ every-machine
   is-known p e = let (a, b) = machine-is p e in let d = k .ranged .six in machine-known p a (omega arith)
 
@@ -164,14 +172,15 @@ module _ {s : State} {h : History} (k : Kept s h) where
 
   -- nothing but the state changes, and the run is the same
   onward : {t : State} {h′ : History} → t .job ≡ s .job → h′ .injections ≡ h .injections → {stable : ℕ → ℕ} → Good nothing-pending t (k .carried .run) stable
-      → Told t h′ (k .carried .run) stable → Onward (k .carried) t h′
-  onward {t} {h′} same inj {stable} g told = record {
+      → Told t h′ (k .carried .run) stable → Waiting (k .carried .run) (t .live 0 .log) → Onward (k .carried) t h′
+  onward {t} {h′} same inj {stable} g told waiting = record {
     carried = record {
       works = k .carried .works;
       run = k .carried .run;
       stable = stable;
       good = g;
       told = told;
+      waiting = waiting;
       is-run = subst (λ j. crash-free (ports j) (h′ .injections) (k .carried .works) ≡ some (k .carried .run)) (sym same)
           (subst (λ i. crash-free (ports (s .job)) i (k .carried .works) ≡ some (k .carried .run)) (sym inj) (k .carried .is-run));
       chares = subst (All (λ i. i .chare ≢ 0)) (sym inj) (k .carried .chares);
@@ -192,7 +201,7 @@ module _ {s : State} {h : History} (k : Kept s h) where
       let (e, f, g, _) = and4 _ _ _ _ named in
       let to = goes-where (s .job) y q a r (eqb-true _ _ e) (eqb-true _ _ f) (eqb-true _ _ g) in
       let m = calm-deliver s q a r n y in
-      finish k (onward (m .job) refl (keep-deliver run-is (k .carried .good) q a r n y i (subst (λ p. s .status p ≢ Down) (sym to) (is-up-here _ up?)) admits) (calm-told m (k .carried .told)))
+      finish k (onward (m .job) refl (keep-deliver run-is (k .carried .good) q a r n y i (subst (λ p. s .status p ≢ Down) (sym to) (is-up-here _ up?)) admits) (calm-told m (k .carried .told)) (deliver-waits (k .carried .good) q a r n y i (k .carried .waiting)))
       (same-ranged (m .job) (m .status) (k .ranged))
 
   keep-wire : (q a r n : ℕ) (o : Option Packet) → questions.on-wire s q a r n ≡ o → up s (packets.destination (s .job) q a r) ≡ true → Yes (questions.packet-questions s o)
@@ -216,7 +225,7 @@ module _ {s : State} {h : History} (k : Kept s h) where
       let d : p ≢ 0 = omega arith in
       let u = is-up-here p (and-l _ _ (y .1 .1 .1 .0)) in
       finish k (onward (checkpoint-job s p) (same-injections s h p) (checkpoint-good s (k .carried .run) (k .carried .stable) run-is (k .carried .good) p d u)
-      (checkpoint-told s (k .carried .run) (k .carried .stable) (k .carried .good) p d u h (k .carried .told)))
+      (checkpoint-told s (k .carried .run) (k .carried .stable) (k .carried .good) p d u h (k .carried .told)) (checkpoint-waits s p (k .carried .waiting)))
       (same-ranged (checkpoint-job s p) (checkpoint-status s p) (k .ranged))
 
   lost-good : {x : Run} {stable : ℕ → ℕ} → Good nothing-pending s x stable → Good nothing-pending (with-lost s true) x stable
@@ -233,7 +242,7 @@ module _ {s : State} {h : History} (k : Kept s h) where
   keep-lost = record {
     kept = record {
       carried = onward {t = with-lost s true} refl refl (lost-good (k .carried .good))
-          (record { sequence = k .carried .told .sequence; saved = k .carried .told .saved; nobody = k .carried .told .nobody }) .carried;
+          (record { sequence = k .carried .told .sequence; saved = k .carried .told .saved; nobody = k .carried .told .nobody }) (k .carried .waiting) .carried;
       ranged = record { known = k .ranged .known; six = k .ranged .six };
     };
     grows = λ a. prefix-refl _;
@@ -253,7 +262,7 @@ module _ {s : State} {h : History} (k : Kept s h) where
       let m = is-known p (y .1 .0) in
       finish k (onward (crash-job s p) refl
       (crash-step s (k .carried .run) (k .carried .stable) run-is (k .carried .good) p m (λ q. all-up q (and-l _ _ e)) (and-r (allb (crashes.is-normal s) (job-machines (s .job))) _ e))
-      (crash-told s p (k .carried .told)))
+      (crash-told s p (k .carried .told)) (crash-waits s p (not-the-desk p (y .1 .0)) (k .carried .waiting)))
       (crash-ranged s p (machine-is p (y .1 .0)) (k .ranged))
 
   keep-restart : (p : ℕ) → Yes (questions.restart-questions s p) → Reached k (accept (restarts.restart s p) .state) (recorded s h (restart p))
@@ -261,11 +270,15 @@ module _ {s : State} {h : History} (k : Kept s h) where
   keep-restart p y =
       let d = down-is-down (s .status p) (y .1 .1 .1 .0) in
       finish k (onward (restart-job s p) (restart-injections s h p) (restart-step s (k .carried .run) (k .carried .stable) (k .carried .good) p d)
-      (restart-told s (k .carried .run) (k .carried .stable) (k .carried .good) p d h (k .carried .told)))
+      (restart-told s (k .carried .run) (k .carried .stable) (k .carried .good) p d h (k .carried .told)) (restart-waits s p (not-the-desk p (y .1 .0)) (k .carried .waiting)))
       (restart-ranged s p (machine-is p (y .1 .0)) (k .ranged))
 
   keep-show : Reached k (restarts.settle s) h
-  keep-show = finish k (onward refl refl (k .carried .good) (k .carried .told)) (k .ranged)
+  keep-show = finish k (onward refl refl (k .carried .good) (k .carried .told) (k .carried .waiting)) (k .ranged)
+
+  keep-withdraw : (r : ℕ) → Yes (questions.withdraw-questions s r) → Reached k (accept (withdrawals.withdraw s r) .state) (recorded s h (withdraw r))
+  unfolding questions.withdraw-questions accept withdrawals.withdraw withdrawals.take-back
+  keep-withdraw r y = finish k (withdraw-frame (k .carried) r (chare-is r (y .1 .0)) (is-up-here _ (y .1 .1 .1 .0)) (y .1 .1 .1 .1 .0)) (same-ranged refl refl (k .ranged))
 
   -- before a job nothing was worked
   keep-job : (b : List ℕ) → Yes (questions.job-questions s b) → Reached k (accept (begin b) .state) no-history
@@ -313,6 +326,7 @@ module _ {s : State} {h : History} (k : Kept s h) where
   keep-yes (crash p) y = keep-crashed p y (crashes.has-cover s p) refl
   keep-yes (restart p) y = keep-restart k p y
   keep-yes (show r) y = keep-show k
+  keep-yes (withdraw r) y = keep-withdraw k r y
 
   -- refused: nothing changes
   keep-judged : (f : Frame) (r : Result Outcome) → put-all (questions.questions s f) (outcome s f) ≡ r → Reached k (judged s r .state) (record-frame s h (some f) (is-accepted (judged s r .answer)))
@@ -344,17 +358,17 @@ kept-start : Kept start no-history
 unfolding start no-job
 kept-start = record { carried = carried-start; ranged = record { known = λ p u. absurd (u refl); six = omega arith } }
 
-kept-after : (ls : List Line) → Kept (state-after ls) (history-after ls)
+pub kept-after : (ls : List Line) → Kept (state-after ls) (history-after ls)
 unfolding state-after history-after
 kept-after ls = keep-lines kept-start ls .kept
 
 -- the state and the history after one list and then another
-run-append : (s : State) (a b : List Line) → play-all s (a ++ b) ≡ play-all (play-all s a) b
+pub run-append : (s : State) (a b : List Line) → play-all s (a ++ b) ≡ play-all (play-all s a) b
 unfolding play-all
 run-append s [] b = refl
 run-append s (l ∷ a) b = run-append (step s l .state) a b
 
-history-append : (s : State) (h : History) (a b : List Line) → history-from s h (a ++ b) ≡ history-from (play-all s a) (history-from s h a) b
+pub history-append : (s : State) (h : History) (a b : List Line) → history-from s h (a ++ b) ≡ history-from (play-all s a) (history-from s h a) b
 unfolding play-all history-from
 history-append s h [] b = refl
 history-append s h (l ∷ a) b = history-append (step s l .state) (record-line s h l) a b

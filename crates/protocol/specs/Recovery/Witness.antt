@@ -1,4 +1,5 @@
--- The theorem is about something: a list with an accepted crash and an accepted restart, and a quiet moment after them.
+-- The theorem is about something: a list with an accepted withdrawal, an accepted crash and an accepted restart, and a quiet moment
+-- after them.
 use mathlib.Core.Path.{_≡_, refl}
 use mathlib.Core.Bool.{true, false}
 use mathlib.Core.List.{List}
@@ -20,15 +21,15 @@ use Rattle.protocol.specs.Recovery.Along.{after-frame, along}
 use Rattle.protocol.specs.Recovery.Holes.{no-holes, is-hole, restart-holes, give, give-asked, change-holes, holes-after}
 use Rattle.protocol.specs.Recovery.Theorem.{demand3}
 
--- chare 1 works a message, its machine crashes and restarts, the message comes again and is worked again
+-- the desk takes a message back and sends another; chare 1 works it, its machine crashes and restarts, the message comes again and is worked again
 unfoldable pub recovering : String
-recovering = two ++ "1001000300\n" ++ through "0001" ++ "1201\n1401\n1501\n110300010001\n1201\n"
+recovering = two ++ "1001000900\n1701\n1001000300\n" ++ through "0001" ++ "1201\n1401\n1501\n110300010001\n1201\n"
 
 unfoldable pub moment : List Line
 moment = lines (text recovering)
 
 -- every frame is accepted
-pub accepted : answers (text (recovering ++ "1601\n")) ≡ text "00J\n00J\n00C\n00G\n00H\n00J\n00J\n00J\n00H\n00J\n00000100000023J\n"
+pub accepted : answers (text (recovering ++ "1601\n")) ≡ text "00J\n00J\n00J\n00J\n00C\n00G\n00H\n00J\n00J\n00J\n00H\n00J\n00000100000023J\n"
 unfolding opened recovering two through
 accepted = refl
 

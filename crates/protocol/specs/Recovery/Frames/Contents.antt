@@ -64,9 +64,9 @@ module _ (t : ℕ) (z : Logged) where
   set-is = refl
 
 -- a ticket is a number
-tick-some : {p : Pending} {w : World} → RunOk (w .job) (w .run) → InvP p w → {r a n t : ℕ} → Chare (w .job) r → Tick (w .run) (w .mem) r a n t → t ≢ 0
-tick-some ok inv c (inl q) e = let b = place-bound q .0 in omega arith
-tick-some ok inv {r} c (inr q) e = let b = inv .tables r c .positive (q .entry) (q .member) in let d = q .of-tn in omega arith
+pub tick-some : {p : Pending} {w : World} → InvP p w → {r a n t : ℕ} → Chare (w .job) r → Tick (w .run) (w .mem) r a n t → t ≢ 0
+tick-some inv c (inl q) e = let b = place-bound q .0 in omega arith
+tick-some inv {r} c (inr q) e = let b = inv .tables r c .positive (q .entry) (q .member) in let d = q .of-tn in omega arith
 
 module _ {p : Pending} {s : State} {x : Run} {stable : ℕ → ℕ} (ok : RunOk (s .job) x) (g : Good p s x stable) (y : Packet)
     (k : SentKey x (y .sender) (y .receiver) (y .sn)) where
@@ -229,7 +229,7 @@ module _ {p : Pending} {s : State} {x : Run} {stable : ℕ → ℕ} (ok : RunOk 
           (λ c _ d. keep-change1 _ _ _ log (λ z q. (elsewhere c d z q, ticketed-elsewhere t c d z q)))
           (subst (λ m. InvP p (put-mem (world-now g) (upd (y .sender) (with-log (g .mem (y .sender)) (ticketed (y .receiver) (y .sn) t (m .log))) (g .mem)))) from
           (log-ticket ok (g .inv) (y .sender) (y .receiver) (y .sn) t (waits .logged) sender
-          (ap (λ m. find (for-receiver (y .receiver) (y .sn)) (m .log)) from ∙ waits .found) (waits .no-tn) (tick-some ok (g .inv) chare tick) tick))
+          (ap (λ m. find (for-receiver (y .receiver) (y .sn)) (m .log)) from ∙ waits .found) (waits .no-tn) (tick-some (g .inv) chare tick) tick))
 
       -- then DATA goes out
       set-sends : is-local (s .job) (y .sender) (y .receiver) ≡ false → Good p (grant-new s y t (Unticketed m)) x stable
@@ -249,7 +249,7 @@ module _ {p : Pending} {s : State} {x : Run} {stable : ℕ → ℕ} (ok : RunOk 
             sent,
             λ _. inl (record {
               tn = t;
-              some-tn = tick-some ok (g .inv) chare tick;
+              some-tn = tick-some (g .inv) chare tick;
               found = rw (upd-same (y .sender) (with-log (g .mem (y .sender)) l) (g .mem)) (record {
                 logged = set-tn t z;
                 member = mem-ticketed (y .receiver) (y .sn) t (subst (λ m. NoDup logged-key (m .log)) from (g .inv .logs (y .sender) sender .keys)) (waits .member) q;

@@ -35,6 +35,8 @@ use Rattle.protocol.specs.Recovery.Steps.Inject.{inject-step}
 use Rattle.protocol.specs.Recovery.Steps.Work.{WorkStep, work-step}
 use Rattle.protocol.specs.Recovery.Frames.Calm.{calm-told, calm-send-all}
 use Rattle.protocol.specs.Recovery.Frames.SendAll.{keep-send-all, all-sent}
+use Rattle.protocol.specs.Recovery.Frames.Waiting.{same-waits, waiting-grown, work-stays, inject-waits}
+use Rattle.protocol.specs.Recovery.Invariant.Ticks.{stable-reached}
 use Rattle.protocol.specs.Recovery.Laws.Status.{up-not-down}
 
 -- what is carried on, its run grown
@@ -84,7 +86,7 @@ module _ {s : State} {h : History} (c : Carried s h) (r v n : ℕ) (chare : Char
   desk-up d = up-not-down (sym (ap (s .status) (c .good .inv .job .desk) ∙ c .good .inv .machines .desk) ∙ d)
 
   pub inject-frame : Onward c (send-all s 0 (r ∷ []) v n) (recorded s h (inject r v n))
-  unfolding put-to-all recorded
+  unfolding put-to-all recorded send-all run-send
   inject-frame =
       let k = calm-send-all s 0 (r ∷ []) v n in
       record {
@@ -96,6 +98,7 @@ module _ {s : State} {h : History} (c : Carried s h) (r v n : ℕ) (chare : Char
           chares = more-chares;
           good = sent-good 0 v n (keep-send-all s longer-ok 0 (r ∷ []) v n owing desk-up (and-i _ _ admits refl));
           told = calm-told k same-told;
+          waiting = same-waits (sym (send-worked (c .run) 0 r v n)) (inject-waits (run-ok (s .job) (h .injections) (c .works) (c .run) (c .chares) (c .is-run)) (c .good) r v n (c .waiting));
         };
         grows = λ a. subst (λ f. Prefix (c .run .worked a) (f a)) (sym (send-worked (c .run) 0 r v n)) (prefix-refl (c .run .worked a));
       }
@@ -157,6 +160,7 @@ module _ {s : State} {h : History} (c : Carried s h) (r : ℕ) (chare : Chare (s
   unfolding work-next put-to-sends worked-only add-worked
   work-step-frame =
       let k = calm-send-all (worked-only s r e) r (receivers-of s r e) (value-out s r e) (hops-out e) in
+      let good = sent-good r _ _ (keep-send-all (worked-only s r e) worked-ok r (receivers-of s r e) (value-out s r e) (hops-out e) worked-good worked-up admits) in
       record {
         carried = record {
           works = done .works;
@@ -164,8 +168,9 @@ module _ {s : State} {h : History} (c : Carried s h) (r : ℕ) (chare : Chare (s
           stable = c .stable;
           is-run = subst (λ j. crash-free (ports j) (told-of .injections) (done .works) ≡ some (done .run)) (sym (k .job)) (told-run (done .is-run));
           chares = told-chares (c .chares);
-          good = sent-good r _ _ (keep-send-all (worked-only s r e) worked-ok r (receivers-of s r e) (value-out s r e) (hops-out e) worked-good worked-up admits);
+          good = good;
           told = calm-told k worked-told;
+          waiting = waiting-grown good (c .run) (done .grows) (λ a d. stable-reached (c .good .inv) a (subst (λ j. Chare j a) (k .job) d)) (rw (work-stays s r e (chare-not-desk (c .good .inv .job) r chare)) (c .waiting));
         };
         grows = done .grows;
       }

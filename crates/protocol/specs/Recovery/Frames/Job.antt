@@ -343,6 +343,7 @@ module _ {j : Job} (ok : JobOk j) {mem : ℕ → Memory} (new : New j mem) where
       saved = λ c chare. refl;
       nobody = λ c _. (refl, refl);
     };
+    waiting = record { unworked = all-empty _ (new .logs 0) };
   }
 
 no-log : (b : List ℕ) (c : ℕ) → first-memory b c .log ≡ []

@@ -174,6 +174,10 @@ pub record PacketOk (w : World) (p : Packet) : Type 0 where
   pub key : SentKey (w .run) (p .sender) (p .receiver) (p .sn)
   pub fits : Fits w (p .sender) (p .receiver) (p .sn) (p .content)
 
+-- ---- the desk's log l: a message without a TN is not worked
+pub record Waiting (x : Run) (l : List Logged) : Type 0 where
+  pub unworked : All (λ y. y .tn ≡ 0 → In (x .worked (y .message .receiver)) 0 (y .message .sn) → ⊥) l
+
 -- ---- the whole, with what is still to be sent in the midst of a step
 pub record InvP (p : Pending) (w : World) : Type 0 where
   pub job : JobOk (w .job)

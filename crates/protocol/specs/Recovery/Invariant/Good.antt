@@ -20,7 +20,7 @@ use Rattle.protocol.specs.CrashFree.{Injection, Work, Run, crash-free}
 use Rattle.protocol.specs.History.{History}
 use Rattle.protocol.specs.Recovery.Laws.Restored.{restored-table-same}
 use Rattle.protocol.specs.Recovery.Invariant.World.{Pending, nothing-pending}
-use Rattle.protocol.specs.Recovery.Invariant.Clauses.{Chare, InvP}
+use Rattle.protocol.specs.Recovery.Invariant.Clauses.{Chare, Waiting, InvP}
 use Rattle.protocol.specs.Recovery.Invariant.Linked.{world, Linked}
 use Rattle.protocol.specs.Recovery.Invariant.Silent.{Silent}
 
@@ -46,6 +46,7 @@ pub record Carried (s : State) (h : History) : Type 0 where
   pub chares : All (λ (i : Injection). i .chare ≢ 0) (h .injections)
   pub good : Good nothing-pending s run stable
   pub told : Told s h run stable
+  pub waiting : Waiting run (s .live 0 .log)
 
 -- ---- a test does not see a change of what fails it
 module _ {A : Type 0} (q : A → Bool) where

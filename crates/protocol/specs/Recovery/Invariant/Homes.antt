@@ -26,6 +26,10 @@ pub not-on : (j : Job) (p c : ℕ) → j .home c ≢ p → on j p c ≡ false
 unfolding on
 not-on j p c h = ne-eqb (j .home c) p h
 
+pub on-home : (j : Job) (p c : ℕ) → on j p c ≡ true → j .home c ≡ p
+unfolding on
+on-home j p c h = eqb-true (j .home c) p h
+
 pub elsewhere : (j : Job) (p c : ℕ) → on j p c ≡ false → j .home c ≢ p
 unfolding on
 elsewhere j p c h = eqb-false (j .home c) p h

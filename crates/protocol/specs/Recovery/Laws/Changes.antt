@@ -71,6 +71,14 @@ module _ {A : Type 0} {key : A → Key} {k : Key} {p : A → Bool} (t : Tests ke
   pub mem-remove : {x : A} {l : List A} → x ∈ l → key x ≢ k → x ∈ remove1 p l
   mem-remove {x} i d = mem-remove1 p i (key-no t x d)
 
+  -- of a list without two of one key
+  pub remove-key : {x : A} (l : List A) → NoDup key l → x ∈ remove1 p l → key x ≢ k
+  unfolding remove1 NoDup
+  remove-key [] h i = absurd (List·Memᴰ·not-nil i)
+  remove-key {x} (y ∷ l) h i = either (p y)
+      (λ e q. h .0 x (rw e at i) (q ∙ sym (t .yes-key y e)))
+      (λ e. elim (List·Memᴰ·cases-cons (rw e at i)) [ inl q ↦ no-key t x (ap p q ∙ e) | inr j ↦ remove-key l (h .1) j ])
+
 -- every old element stays, perhaps changed
 pub mem-change1-either : {A : Type 0} (p : A → Bool) (f : A → A) {a : A} {l : List A} → a ∈ l → (a ∈ change1 p f l) ⊎ (f a ∈ change1 p f l)
 unfolding change1

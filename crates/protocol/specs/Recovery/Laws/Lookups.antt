@@ -19,7 +19,7 @@ use Rattle.protocol.specs.Parts.{Memory}
 use Rattle.protocol.specs.Tickets.{for-message, entry, has-tn, fill, filled}
 use Rattle.protocol.specs.Working.{next-entry}
 use Rattle.protocol.specs.Packets.{for-receiver, looked-up, lookup, set-tn, ticketed}
-use Rattle.protocol.specs.Recovery.Laws.Changes.{Key, Tests, pair-true, true-pair, no-key, change-old, change-other, mem-change, mem-remove}
+use Rattle.protocol.specs.Recovery.Laws.Changes.{Key, Tests, pair-true, true-pair, no-key, change-old, change-other, mem-change, mem-remove, remove-key}
 
 abbrev pub entry-key : Entry → Key
 entry-key e = (e .sender, e .sn)
@@ -121,6 +121,9 @@ module _ (r n t : ℕ) where
 module _ (r n : ℕ) where
   pub mem-removed : {x : Logged} {l : List Logged} → x ∈ l → logged-key x ≢ (r, n) → x ∈ remove1 (for-receiver r n) l
   mem-removed = mem-remove (tests-logged r n)
+
+  pub removed-key : {x : Logged} (l : List Logged) → NoDup logged-key l → x ∈ remove1 (for-receiver r n) l → logged-key x ≢ (r, n)
+  removed-key = remove-key (tests-logged r n)
 
   pub nodup-removed : (l : List Logged) → NoDup logged-key l → NoDup logged-key (remove1 (for-receiver r n) l)
   nodup-removed l = nodup-remove1 logged-key (for-receiver r n) l

@@ -31,17 +31,17 @@ module _ (j : Job) where
   none-all (w ∷ l) = none-all l
 
   -- a work whose message is found
-  does-work : (x : Run) (w : Work) (m : Message) → x .unworked (w .sender) (w .receiver) (w .sn) ≡ some m → then-work (ports j) (some x) w ≡ some (run-work (ports j) x w m)
+  pub does-work : (x : Run) (w : Work) (m : Message) → x .unworked (w .sender) (w .receiver) (w .sn) ≡ some m → then-work (ports j) (some x) w ≡ some (run-work (ports j) x w m)
   unfolding then-work one-work found-work
   does-work x w m e = ap (found-work (ports j) x w) e
 
   -- a list of works that gives a run finds the message of its first
-  record First (x : Run) (w : Work) (l : List Work) (y : Run) : Type 0 where
-    message : Message
-    found : x .unworked (w .sender) (w .receiver) (w .sn) ≡ some message
-    rest : work-all (ports j) (some (run-work (ports j) x w message)) l ≡ some y
+  pub record First (x : Run) (w : Work) (l : List Work) (y : Run) : Type 0 where
+    pub message : Message
+    pub found : x .unworked (w .sender) (w .receiver) (w .sn) ≡ some message
+    pub rest : work-all (ports j) (some (run-work (ports j) x w message)) l ≡ some y
 
-  first : (x : Run) (w : Work) (l : List Work) (y : Run) → work-all (ports j) (some x) (w ∷ l) ≡ some y → First x w l y
+  pub first : (x : Run) (w : Work) (l : List Work) (y : Run) → work-all (ports j) (some x) (w ∷ l) ≡ some y → First x w l y
   unfolding work-all then-work one-work found-work
   first x w l y e = go (x .unworked (w .sender) (w .receiver) (w .sn)) refl e
     where
@@ -49,7 +49,7 @@ module _ (j : Job) where
       go none q e = some-none e (none-all l)
       go (some m) q e = record { message = m; found = q; rest = e }
 
-  works-ok : (x : Run) (ws : List Work) (y : Run) → RunOk j x → work-all (ports j) (some x) ws ≡ some y → RunOk j y
+  pub works-ok : (x : Run) (ws : List Work) (y : Run) → RunOk j x → work-all (ports j) (some x) ws ≡ some y → RunOk j y
   unfolding work-all
   works-ok x [] y ok e = subst (RunOk j) (some-inj refl e) ok
   works-ok x (w ∷ ws) y ok e =
@@ -75,7 +75,7 @@ module _ (j : Job) where
   unfolding run-send
   desk-ok x c value hops chare ok = desk-consistent ok c value hops chare
 
-  injected-ok : (x : Run) (is : List Injection) → ForChares is → RunOk j x → RunOk j (inject-all x is)
+  pub injected-ok : (x : Run) (is : List Injection) → ForChares is → RunOk j x → RunOk j (inject-all x is)
   unfolding inject-all
   injected-ok x [] chares ok = ok
   injected-ok x (i ∷ is) chares ok =

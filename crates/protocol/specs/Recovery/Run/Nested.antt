@@ -14,6 +14,24 @@ module _ {A : Type 0} where
       (λ a q b. old a b (λ e. q (e .0)))
       a b
 
+  abbrev pub upd2 : ℕ → ℕ → A → (ℕ → ℕ → A) → ℕ → ℕ → A
+  upd2 s r v f = upd s (upd r v (f s)) f
+
+  pub upd2-same : (s r : ℕ) (v : A) (f : ℕ → ℕ → A) → upd2 s r v f s r ≡ v
+  upd2-same s r v f = upd2-ind (λ a b u. (a ≡ s) × (b ≡ r) → u ≡ v) s r v f (λ _. refl) (λ a b q e. absurd (q e)) s r (refl, refl)
+
+  pub upd2-other : (s r : ℕ) (v : A) (f : ℕ → ℕ → A) (a b : ℕ) → ¬ ((a ≡ s) × (b ≡ r)) → upd2 s r v f a b ≡ f a b
+  upd2-other s r v f a b h = upd2-ind (λ a b u. ¬ ((a ≡ s) × (b ≡ r)) → u ≡ f a b) s r v f (λ q. absurd (q (refl, refl))) (λ a b _ _. refl) a b h
+
+  pub upd2-comm : (s r s′ r′ : ℕ) (v w : A) (f : ℕ → ℕ → A) → ¬ ((s ≡ s′) × (r ≡ r′)) → upd2 s r v (upd2 s′ r′ w f) ≡ upd2 s′ r′ w (upd2 s r v f)
+  upd2-comm s r s′ r′ v w f h = fun-ext (λ a. fun-ext (λ b. upd2-ind (λ a b u. u ≡ upd2 s′ r′ w (upd2 s r v f) a b) s r v (upd2 s′ r′ w f)
+      (sym (upd2-other s′ r′ w (upd2 s r v f) s r h ∙ upd2-same s r v f))
+      (λ a b q. upd2-ind (λ a b u. ¬ ((a ≡ s) × (b ≡ r)) → u ≡ upd2 s′ r′ w (upd2 s r v f) a b) s′ r′ w f
+      (λ _. sym (upd2-same s′ r′ w (upd2 s r v f)))
+      (λ a b p q. sym (upd2-other s′ r′ w (upd2 s r v f) a b p ∙ upd2-other s r v f a b q))
+      a b q)
+      a b))
+
   pub upd3-ind {κ} : (P : ℕ → ℕ → ℕ → A → Type κ) (s r n : ℕ) (v : A) (f : ℕ → ℕ → ℕ → A)
       → P s r n v → ((a b k : ℕ) → ¬ ((a ≡ s) × (b ≡ r) × (k ≡ n)) → P a b k (f a b k)) → (a b k : ℕ) → P a b k (upd3 s r n v f a b k)
   unfolding upd3

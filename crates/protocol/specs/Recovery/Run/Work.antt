@@ -32,12 +32,12 @@ module _ {made : ℕ → Local} {x : Run} (ok : Consistent made x) (w : Work) (m
   pub found-chare : w .receiver ≢ 0
   found-chare e = ok .bounds m found-sent .2 (found-receiver ∙ e)
 
-  taken : m ∈ run-take x w m .worked (m .receiver)
+  pub taken : m ∈ run-take x w m .worked (m .receiver)
   unfolding run-take
   taken = subst (λ r. m ∈ upd (w .receiver) (x .worked (w .receiver) ++ (m ∷ [])) (x .worked) r) (sym found-receiver)
       (subst (m ∈_) (sym (upd-same (w .receiver) _ (x .worked))) (Memᴰ·append-right (x .worked (w .receiver)) (here refl)))
 
-  worked-stays : (y : Message) (r : ℕ) → y ∈ x .worked r → y ∈ run-take x w m .worked r
+  pub worked-stays : (y : Message) (r : ℕ) → y ∈ x .worked r → y ∈ run-take x w m .worked r
   unfolding run-take
   worked-stays y = upd-ind (λ r l. y ∈ x .worked r → y ∈ l) (w .receiver) _ (x .worked) (Memᴰ·append-left _) (λ r _ i. i)
 

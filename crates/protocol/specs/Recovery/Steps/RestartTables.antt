@@ -6,13 +6,12 @@ use mathlib.Core.List.{List, [], _∷_}
 use Prim.Native.Nat.{ℕ, _≤_}
 use Rattle.lists.specs.Lists.{_∈_}
 use native.Mathlib.Omega.{arith}
-use borrow.Author.Tests.{eqb-true}
 use Rattle.lists.specs.Tests.{true-not-false}
 use Rattle.lists.specs.Keys.{NoDup, nodup-change1}
 use Rattle.protocol.specs.declared.Logged.{Logged}
 use Rattle.protocol.specs.declared.Entry.{Entry}
 use Rattle.protocol.specs.declared.Status.the-variants.{Down}
-use Rattle.protocol.specs.Parts.{Job, Memory, State, on, at-home}
+use Rattle.protocol.specs.Parts.{Memory, State, at-home}
 use Rattle.protocol.specs.Setters.{with-table, with-highest-at-restart}
 use Rattle.protocol.specs.Tickets.{for-message, fill, filled}
 use Rattle.protocol.specs.Restart.{restored-table, fill-all, filled-table, restored}
@@ -28,11 +27,7 @@ use Rattle.protocol.specs.Recovery.Invariant.Counts.{chare-not-desk}
 use Rattle.protocol.specs.Recovery.Steps.Table.{Arrived, Rewritten}
 use Rattle.protocol.specs.Recovery.Steps.Retables.{tables-rewrite}
 use Rattle.protocol.specs.Recovery.Laws.Status.{down-not-up}
-use Rattle.protocol.specs.Recovery.Invariant.Homes.{home-local}
-
-pub on-home : (j : Job) (p c : ℕ) → on j p c ≡ true → j .home c ≡ p
-unfolding on
-on-home j p c e = eqb-true (j .home c) p e
+use Rattle.protocol.specs.Recovery.Invariant.Homes.{home-local, on-home}
 
 -- filling leaves what a fill leaves
 nodup-fill-all-by : {K : Type 0} (k : Entry → K) → ((value hops : ℕ) (e : Entry) → k (fill value hops e) ≡ k e) → (l : List Entry) (xs : List Logged)

@@ -28,9 +28,8 @@ use Rattle.protocol.specs.Recovery.Invariant.Silent.{Silent}
 use Rattle.protocol.specs.Recovery.Laws.AtHome.{at-home-on}
 use Rattle.protocol.specs.Recovery.Invariant.Later.{Later, wire-later}
 use Rattle.protocol.specs.Recovery.Laws.Resends.{Cause, ask-here, data-here, ask-elsewhere, resends-mem}
-use Rattle.protocol.specs.Recovery.Steps.RestartTables.{on-home}
 use Rattle.protocol.specs.Recovery.Laws.Status.{down-not-up, catching-up-not-up, down-not-catching-up}
-use Rattle.protocol.specs.Recovery.Invariant.Homes.{local-home}
+use Rattle.protocol.specs.Recovery.Invariant.Homes.{local-home, on-home}
 
 -- ---- a machine that is down begins to catch up
 module _ {p : Pending} {w : World} (inv : InvP p w) (q : ℕ) (down : w .status q ≡ Down) where
