@@ -1,7 +1,7 @@
 //! The answers and their lines.
 
-/// The questions put to each frame, with their numbers.
-#[derive(Clone, Copy, Debug, PartialEq, Eq, PartialOrd, Ord, Hash)]
+/// The questions put to each frame, in their order, with their numbers.
+#[derive(Clone, Copy, Debug, PartialEq, Eq, Hash)]
 pub enum Question {
     Form = 1,
     Job = 2,
@@ -9,6 +9,8 @@ pub enum Question {
     NotLost = 4,
     Up = 5,
     Present = 6,
+    /// Put to a withdrawal where question 6 is put to a delivery.
+    Withdrawable = 12,
     Number = 7,
     Window = 8,
     LogSpace = 9,

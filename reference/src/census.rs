@@ -11,15 +11,15 @@ use crate::world::Phase;
 use std::fmt;
 
 /// Names of the answers in the order in which they are counted.
-pub const ANSWERS: [&str; 13] = [
-    "00", "01", "02", "03", "04", "05", "06", "07", "08", "09", "10", "11", "FF",
+pub const ANSWERS: [&str; 14] = [
+    "00", "01", "02", "03", "04", "05", "06", "07", "08", "09", "10", "11", "12", "FF",
 ];
 
 fn place(answer: Answer) -> usize {
     match answer {
         Answer::Accepted(_) | Answer::Shown { .. } => 0,
         Answer::Refused(question) => question as usize,
-        Answer::Lost => 12,
+        Answer::Lost => ANSWERS.len() - 1,
     }
 }
 

@@ -53,6 +53,8 @@ pub struct Checker {
     run: Option<Run>,
     /// The restarts that the sequences of the run know of.
     restarts: usize,
+    /// The withdrawals that its injections know of.
+    withdrawals: usize,
     /// Room for the works of one extension.
     works: Vec<Work>,
     /// The injections that the run knows of.
@@ -68,6 +70,7 @@ impl Checker {
         Checker {
             run: None,
             restarts: 0,
+            withdrawals: 0,
             works: Vec::new(),
             injections: 0,
             since_nothing: 0,
@@ -85,10 +88,17 @@ impl Checker {
         self.since_nothing += 1;
         let restarted = self.restarts != history.restarts;
         self.restarts = history.restarts;
+        let withdrawn = self.withdrawals != history.withdrawals;
+        self.withdrawals = history.withdrawals;
         let run = self.run.get_or_insert_with(|| Run::new(job));
-        if restarted {
+        if restarted || withdrawn {
             // Sequences were put back and have grown again, perhaps in another way.
             begins_with(&history.sequences, &run.worked)?;
+        }
+        if withdrawn {
+            // A message less was sent: another run, which must still begin like the last.
+            *run = Run::new(job);
+            self.injections = 0;
         }
         for injection in &history.injections[self.injections..] {
             run.inject(injection);

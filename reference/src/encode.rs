@@ -19,6 +19,7 @@ pub fn bytes(frame: &Frame) -> Vec<u8> {
         Frame::Crash { machine } => vec![0x14, machine],
         Frame::Restart { machine } => vec![0x15, machine],
         Frame::Show { chare } => vec![0x16, chare],
+        Frame::Withdraw { chare } => vec![0x17, chare],
     }
 }
 

@@ -14,6 +14,7 @@ pub enum Frame {
     Crash { machine: u8 },
     Restart { machine: u8 },
     Show { chare: u8 },
+    Withdraw { chare: u8 },
 }
 
 /// By these numbers a delivery names its packet.
@@ -60,8 +61,8 @@ const JOB: u8 = 0x01;
 const LONGEST_SHORT: usize = 6;
 
 /// The least length of each kind in bytes, 0 for an unknown kind. Only a job may be longer.
-pub const LEAST_LENGTH: [usize; 0x17] = {
-    let mut least = [0; 0x17];
+pub const LEAST_LENGTH: [usize; 0x18] = {
+    let mut least = [0; 0x18];
     least[0x01] = 3;
     least[0x10] = 5;
     least[0x11] = LONGEST_SHORT;
@@ -70,6 +71,7 @@ pub const LEAST_LENGTH: [usize; 0x17] = {
     least[0x14] = 2;
     least[0x15] = 2;
     least[0x16] = 2;
+    least[0x17] = 2;
     least
 };
 
@@ -137,7 +139,8 @@ pub fn parse(line: &[u8]) -> Option<Frame> {
         0x13 => Frame::Checkpoint { machine: b[1] },
         0x14 => Frame::Crash { machine: b[1] },
         0x15 => Frame::Restart { machine: b[1] },
-        _ => Frame::Show { chare: b[1] },
+        0x16 => Frame::Show { chare: b[1] },
+        _ => Frame::Withdraw { chare: b[1] },
     })
 }
 

@@ -114,7 +114,9 @@ impl Generator {
                     self.stuck = 0;
                 }
             }
-            Answer::Refused(question) if question >= Question::LogSpace => self.cramped += 1,
+            Answer::Refused(Question::LogSpace | Question::Space | Question::WireSpace) => {
+                self.cramped += 1;
+            }
             _ => {}
         }
     }

@@ -11,7 +11,7 @@ use std::collections::BTreeSet;
 
 #[derive(Clone, Debug, Default)]
 pub struct History {
-    /// The accepted injections, in order.
+    /// The accepted injections that are not withdrawn, in order.
     pub injections: Vec<Injection>,
     /// The messages each chare has worked, in order; as many as the job has chares.
     pub sequences: Vec<Vec<Message>>,
@@ -20,8 +20,9 @@ pub struct History {
     copied: [usize; MAX_CHARES],
     /// The holes as an explicit set: made by a restart, used up by new tickets.
     pub holes: [BTreeSet<u16>; MAX_CHARES],
-    /// Restarts so far.
+    /// Restarts and withdrawals so far.
     pub restarts: usize,
+    pub withdrawals: usize,
 }
 
 /// The message that an accepted work of this frame works: the one with the next TN.
@@ -75,11 +76,21 @@ impl History {
                 }
                 self.find_holes(job, machine, state);
             }
+            Frame::Withdraw { chare } => self.withdraw(chare),
             Frame::Deliver(_) | Frame::Show { .. } => {}
         }
         for chare in job.chares() {
             let table = &state.world.chare(chare).table;
             self.holes[ix(chare)].retain(|&tn| !table.has_tn(tn));
+        }
+    }
+
+    /// Takes the last injection to a chare out; those to other chares may stand behind it.
+    fn withdraw(&mut self, chare: u8) {
+        self.withdrawals += 1;
+        let last = self.injections.iter().rposition(|i| i.chare == chare);
+        if let Some(at) = last {
+            self.injections.remove(at);
         }
     }
 

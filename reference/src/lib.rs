@@ -17,6 +17,7 @@ pub mod send;
 pub mod state;
 pub mod table;
 pub mod wire;
+pub mod withdraw;
 pub mod world;
 
 // Lists of frames to play.

@@ -83,6 +83,7 @@ impl State {
                     state: shown.state,
                 });
             }
+            Frame::Withdraw { chare } => world.withdraw(job, chare)?,
         }
         world.settle(job);
         Ok(Answer::Accepted(rule))
@@ -111,7 +112,9 @@ fn in_range(job: &Job, frame: &Frame) -> bool {
                 && job.has_chare(delivery.receiver)
                 && (1..=MAX_NUMBER).contains(&delivery.sn)
         }
-        Frame::Work { chare } | Frame::Show { chare } => job.has_chare(chare),
+        Frame::Work { chare } | Frame::Show { chare } | Frame::Withdraw { chare } => {
+            job.has_chare(chare)
+        }
         Frame::Checkpoint { machine } | Frame::Crash { machine } | Frame::Restart { machine } => {
             job.has_machine(machine)
         }
