@@ -1,4 +1,4 @@
-//! What can come next: each packet and each work that would be accepted, and what is blocked and why.
+//! What can come next: each packet, work and withdrawal that would be accepted, and what is blocked and why.
 
 use crate::names::{capital, count, packet};
 use crate::notation::{digits_of, one_line};
@@ -6,6 +6,7 @@ use crate::play::{play, probe, Difference, Step};
 use crate::words::{crash, refusal, words};
 use reference::answer::Answer;
 use reference::frame::Frame;
+use reference::job::ix;
 use reference::state::State;
 
 /// One frame that could come next.
@@ -42,6 +43,7 @@ pub fn next(input: &[u8], engine: &[u8]) -> Result<String, Difference> {
 
 fn listed(state: &State) -> String {
     let (packets, works, machines) = (packets(state), works(state), machines(state));
+    let withdrawals = withdrawals(state);
     let mut text = String::new();
     for (tries, yes, no) in [
         (
@@ -54,6 +56,11 @@ fn listed(state: &State) -> String {
             machines,
             "What machines can do",
             "What machines cannot do, or not without losing the run",
+        ),
+        (
+            withdrawals,
+            "Injections that can be withdrawn",
+            "Injections that cannot be withdrawn",
         ),
     ] {
         let (open, blocked): (Vec<Try>, Vec<Try>) = tries
@@ -132,6 +139,14 @@ pub fn machines(state: &State) -> Vec<Try> {
         }
     }
     tries
+}
+
+/// The last injection to each chare that has one.
+pub fn withdrawals(state: &State) -> Vec<Try> {
+    let chares = state.job.iter().flat_map(|job| job.chares());
+    let chares = chares.filter(|&chare| state.world.desk.sent[ix(chare)] > 0);
+    let withdraw = |chare| tried(state, Frame::Withdraw { chare }, first_line);
+    chares.map(withdraw).collect()
 }
 
 fn first_line(step: &Step) -> String {

@@ -12,7 +12,7 @@ pub type Packet = (Name, Content);
 pub struct Change {
     /// The packet that was delivered.
     pub taken: Option<usize>,
-    /// Packets that a crash or a restart took off the wire.
+    /// Packets that a crash, a restart or a withdrawal took off the wire.
     pub gone: Vec<usize>,
     /// Packets that went out, in order.
     pub sent: Vec<Packet>,
@@ -37,8 +37,8 @@ pub fn change(job: &Job, frame: &Frame, before: &Wire, after: &Wire) -> Change {
     let mut change = Change::default();
     match *frame {
         Frame::Deliver(_) => change.taken = named(frame).and_then(|name| before.find(name)),
-        // A crash sends nothing, so what is not found again in its order is gone.
-        Frame::Crash { .. } => {
+        // These send nothing, so what is not found again in its order is gone.
+        Frame::Crash { .. } | Frame::Withdraw { .. } => {
             let mut kept = after.packets().peekable();
             for (at, packet) in before.packets().enumerate() {
                 if kept.next_if_eq(&packet).is_none() {

@@ -15,6 +15,7 @@ checkpoint 1
 crash 1
 restart 1
 show 1
+withdraw 1
 ";
 
 const DIGITS: &str = "\
@@ -26,6 +27,7 @@ const DIGITS: &str = "\
 1401
 1501
 1601
+1701
 ";
 
 #[test]
@@ -110,7 +112,9 @@ fn a_mistake_is_named_with_line_and_column() {
         ("work", 3, 5, "expected a chare, from 0 to 255, the line ends"),
         ("work 256", 3, 6, "expected a chare, from 0 to 255, found \"256\""),
         ("work 1 2", 3, 8, "expected the end of the line or a comment, found \"2\""),
-        ("\nwrok 1\nwork 1", 4, 1, "expected one of job, chare, inject, deliver, work, checkpoint, crash, restart, show, raw, found \"wrok\""),
+        ("\nwrok 1\nwork 1", 4, 1, "expected one of job, chare, inject, deliver, work, checkpoint, crash, restart, show, withdraw, raw, found \"wrok\""),
+        ("withdraw x", 3, 10, "expected a chare, from 0 to 255, found \"x\""),
+        ("withdraw 1 value 3", 3, 12, "expected the end of the line or a comment, found \"value\""),
         ("inject 1 3 hops 1", 3, 10, "expected \"value\", found \"3\""),
         ("inject 1 value 70000 hops 1", 3, 16, "expected a value, from 0 to 65535, found \"70000\""),
         ("inject 1 value 3", 3, 17, "expected \"hops\", the line ends"),
@@ -126,7 +130,7 @@ fn a_mistake_is_named_with_line_and_column() {
         ("job 7 machines", 3, 5, "a job in words has at most 6 machines"),
         ("job 2 machines, buddies 2", 3, 26, "expected the buddy of machine 2 (0: the machine before), from 0 to 255, the line ends"),
         ("raw \\q", 3, 5, "expected \\\\ or \\x and two hexadecimal digits, not those of a newline"),
-        ("1201\nwork 1", 3, 1, "expected one of job, chare, inject, deliver, work, checkpoint, crash, restart, show, raw, found \"1201\""),
+        ("1201\nwork 1", 3, 1, "expected one of job, chare, inject, deliver, work, checkpoint, crash, restart, show, withdraw, raw, found \"1201\""),
     ] {
         let got = encode(format!("{job}{list}\n").as_bytes());
         let want = Error {

@@ -123,8 +123,22 @@ fn texts(picture: &str) -> Vec<Area> {
     shapes(picture, "<text").map(text_area).collect()
 }
 
+/// The ring with a cross at the end of a packet that was taken back.
+fn ring_area(shape: &str) -> Option<Area> {
+    let [x, y, radius] = ["cx", "cy", "r"].map(|name| number(shape, name));
+    (radius == 6.0).then(|| Area {
+        what: "a ring".to_string(),
+        left: x - radius,
+        right: x + radius,
+        top: y - radius,
+        bottom: y + radius,
+    })
+}
+
 fn marks(picture: &str) -> Vec<Area> {
-    shapes(picture, "<rect x").filter_map(mark_area).collect()
+    let rings = shapes(picture, "<circle").filter_map(ring_area);
+    let marks = shapes(picture, "<rect x").filter_map(mark_area);
+    marks.chain(rings).collect()
 }
 
 fn ways(picture: &str) -> Vec<Way> {

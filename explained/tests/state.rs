@@ -35,9 +35,9 @@ fn every_part_is_shown() {
         }
         state
     });
-    let mut tried = [0; 15];
+    let mut tried = [0; 16];
     for state in played.filter(|state| state.job.is_some()) {
-        let changes: [fn(&mut State) -> bool; 15] = [
+        let changes: [fn(&mut State) -> bool; 16] = [
             |s| {
                 change(s.world.chares.iter_mut().find(|c| c.height > 0), |c| {
                     c.state ^= 1
@@ -69,6 +69,11 @@ fn every_part_is_shown() {
             |s| {
                 change(s.world.chares.iter_mut().find(|c| c.sent[0] > 0), |c| {
                     c.sent[0] += 1
+                })
+            },
+            |s| {
+                change(s.world.desk.sent.iter_mut().find(|sn| **sn > 0), |sn| {
+                    *sn -= 1
                 })
             },
             |s| change(entry(s), |e| e.tn += 100),

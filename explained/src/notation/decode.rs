@@ -86,6 +86,7 @@ fn spelt(frame: &Frame) -> Vec<String> {
         Frame::Crash { machine } => format!("crash {machine}"),
         Frame::Restart { machine } => format!("restart {machine}"),
         Frame::Show { chare } => format!("show {chare}"),
+        Frame::Withdraw { chare } => format!("withdraw {chare}"),
     };
     vec![line]
 }

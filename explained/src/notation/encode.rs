@@ -68,6 +68,9 @@ fn frame(word: &str, scan: &mut Scan) -> Result<Frame, Error> {
         "show" => Frame::Show {
             chare: chare(scan)?,
         },
+        "withdraw" => Frame::Withdraw {
+            chare: chare(scan)?,
+        },
         other => {
             let known = WORDS.join(", ");
             return Err(scan.wrong(format!("expected one of {known}, found \"{other}\"")));

@@ -1,7 +1,7 @@
 //! Is a list written in words or in digits?
 
 /// The words with which a line in words begins.
-pub const WORDS: [&str; 10] = [
+pub const WORDS: [&str; 11] = [
     "job",
     "chare",
     "inject",
@@ -11,6 +11,7 @@ pub const WORDS: [&str; 10] = [
     "crash",
     "restart",
     "show",
+    "withdraw",
     "raw",
 ];
 
@@ -67,6 +68,7 @@ mod tests {
             "job 2 machines\n",
             "# a list\n\n  Work 1\r\n",
             "jop 2 machines\nwork 1\n",
+            "withdraw 1\n1201\n",
             "raw\n",
         ] {
             assert_eq!(form(list.as_bytes()), Form::Words, "{list}");
@@ -77,6 +79,7 @@ mod tests {
             "# a list\n1201\n",
             "1201\nwork 1\n1201\n",
             "worked\n",
+            "withdrawn\n",
             "\u{1}\u{2}",
         ] {
             assert_eq!(form(list.as_bytes()), Form::Digits, "{list}");

@@ -11,6 +11,7 @@
 //! crash 1
 //! restart 1
 //! show 1
+//! withdraw 1                      # takes the desk's last message to chare 1 back
 //! raw 12G1                        (this line as it stands, for what is no frame)
 //! ```
 

@@ -6,6 +6,11 @@ use super::routes::side;
 use super::svg::{Anchor, Point, Svg};
 use reference::wire::Kind;
 
+/// How long an arrowhead is.
+const ARROWHEAD: f64 = 10.0;
+/// The radius of the ring with a cross in it, at the end of a packet that was taken back.
+pub const RING: f64 = 6.0;
+
 pub fn colour(kind: Kind) -> &'static str {
     match kind {
         Kind::Ask => "#1b5fc1",
@@ -44,7 +49,7 @@ fn put_straight(svg: &mut Svg, route: &[Point], colour: &str, end: End) {
 fn stroke(colour: &str, end: End) -> String {
     let dashes = match end {
         End::OnWire => " stroke-dasharray=\"4 3\"",
-        End::Delivered(_) | End::Lost(_) => "",
+        End::Delivered(_) | End::Lost(_) | End::Withdrawn(_) => "",
     };
     format!("fill=\"none\" stroke=\"{colour}\" stroke-width=\"1.6\"{dashes}")
 }
@@ -53,16 +58,26 @@ fn put_tail(svg: &mut Svg, tail: Point, colour: &str) {
     svg.circle(tail, 3.0, &format!("fill=\"{colour}\" stroke=\"#fff\""));
 }
 
-/// The route without the length of the arrowhead, which would blunt its tip.
+/// The route without the length of the arrowhead, which would blunt its tip, and not into a ring.
 fn shortened(route: &[Point], end: End) -> Vec<Point> {
     let mut points = route.to_vec();
-    if let (End::Delivered(_), [.., last, head]) = (end, route) {
-        let [_, left, right] = arrowhead(*last, *head);
-        let back = Point::new((left.x + right.x) / 2.0, (left.y + right.y) / 2.0);
+    let back = match end {
+        End::Delivered(_) => ARROWHEAD,
+        End::Withdrawn(_) => RING,
+        End::OnWire | End::Lost(_) => return points,
+    };
+    if let [.., last, head] = *route {
         points.pop();
-        points.push(back);
+        points.push(behind(last, head, back));
     }
     points
+}
+
+/// The point of an arrow's last stretch that is so far from its head.
+fn behind(last: Point, head: Point, distance: f64) -> Point {
+    let (dx, dy) = (head.x - last.x, head.y - last.y);
+    let long = dx.hypot(dy).max(1.0);
+    Point::new(head.x - distance * dx / long, head.y - distance * dy / long)
 }
 
 fn put_end(svg: &mut Svg, last: Point, head: Point, colour: &str, end: End) {
@@ -70,29 +85,34 @@ fn put_end(svg: &mut Svg, last: Point, head: Point, colour: &str, end: End) {
         End::Delivered(_) => {
             svg.polygon(&arrowhead(last, head), &format!("fill=\"{colour}\""));
         }
-        End::Lost(_) => {
-            let thick = format!("stroke=\"{colour}\" stroke-width=\"2.6\"");
-            for slant in [-5.0, 5.0] {
-                let from = Point::new(head.x - 5.0, head.y - slant);
-                let to = Point::new(head.x + 5.0, head.y + slant);
-                svg.line(from, to, &thick);
-            }
+        End::Lost(_) => put_cross(svg, head, 5.0, colour, 2.6),
+        End::Withdrawn(_) => {
+            put_ring(svg, head, RING, colour);
+            put_cross(svg, head, 3.6, colour, 1.6);
         }
-        End::OnWire => {
-            let look = format!("fill=\"#fff\" stroke=\"{colour}\" stroke-width=\"1.6\"");
-            svg.circle(head, 3.0, &look);
-        }
+        End::OnWire => put_ring(svg, head, 3.0, colour),
     }
+}
+
+fn put_cross(svg: &mut Svg, middle: Point, half: f64, colour: &str, thick: f64) {
+    let look = format!("stroke=\"{colour}\" stroke-width=\"{thick}\"");
+    for slant in [-half, half] {
+        let from = Point::new(middle.x - half, middle.y - slant);
+        let to = Point::new(middle.x + half, middle.y + slant);
+        svg.line(from, to, &look);
+    }
+}
+
+fn put_ring(svg: &mut Svg, middle: Point, radius: f64, colour: &str) {
+    let look = format!("fill=\"#fff\" stroke=\"{colour}\" stroke-width=\"1.6\"");
+    svg.circle(middle, radius, &look);
 }
 
 /// Tip and both corners at the back.
 fn arrowhead(last: Point, head: Point) -> [Point; 3] {
-    const LENGTH: f64 = 10.0;
     const HALF: f64 = 4.0;
-    let (dx, dy) = (head.x - last.x, head.y - last.y);
-    let long = dx.hypot(dy).max(1.0);
-    let (ux, uy) = (dx / long, dy / long);
-    let back = Point::new(head.x - LENGTH * ux, head.y - LENGTH * uy);
+    let back = behind(last, head, ARROWHEAD);
+    let (ux, uy) = ((head.x - back.x) / ARROWHEAD, (head.y - back.y) / ARROWHEAD);
     let left = Point::new(back.x - HALF * uy, back.y + HALF * ux);
     let right = Point::new(back.x + HALF * uy, back.y - HALF * ux);
     [head, left, right]
@@ -122,6 +142,7 @@ fn explained(story: &Story, flight: &Flight) -> String {
         End::OnWire => "not delivered by the end".to_string(),
         End::Delivered(row) => format!("delivered at frame {}", number(row)),
         End::Lost(row) => format!("taken off the wire at frame {}", number(row)),
+        End::Withdrawn(row) => format!("withdrawn at frame {}", number(row)),
     };
     format!(
         "{}: {}; sent at frame {}, {end}",

@@ -161,6 +161,7 @@ fn with_flights(story: &Story, mut rows: Vec<Row>, places: &[usize]) -> Story {
             End::OnWire => End::OnWire,
             End::Delivered(row) => End::Delivered(places[row]),
             End::Lost(row) => End::Lost(places[row]),
+            End::Withdrawn(row) => End::Withdrawn(places[row]),
         };
         flights.push(flight);
     }

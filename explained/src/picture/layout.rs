@@ -1,7 +1,8 @@
 //! Where rows, lanes and pages stand.
 
+use super::arrows::RING;
 use super::lanes::HEADS;
-use super::marked::Mark;
+use super::marked::{Mark, MarkKind};
 use super::record::{Row, Story};
 use super::routes::side;
 use super::svg::{text_width, Area};
@@ -27,6 +28,9 @@ pub const FROM_LANE: f64 = 9.0;
 /// Between two tracks, if there is room for all.
 const TRACK: f64 = 14.0;
 const WIDEST_GUTTER: f64 = 240.0;
+
+/// From a mark to the middle of the ring beside it.
+const BESIDE: f64 = RING + 3.0;
 
 /// Half the width of a lane's band.
 pub const BAND: f64 = 5.0;
@@ -173,6 +177,13 @@ impl Layout {
         self.moment(at) + SLOT * above(&row.marks, mark) as f64
     }
 
+    /// Right beside the first mark of a row, where a packet that was taken back ends.
+    pub fn beside_mark(&self, row: &Row, side: f64) -> f64 {
+        row.marks.first().map_or(0.0, |mark| {
+            self.lane(mark.machine) + side * (pill_width(&mark.text) / 2.0 + BESIDE)
+        })
+    }
+
     /// The middle of the slot in which a row says that a machine has caught up.
     pub fn caught_up(&self, row: &Row, at: usize) -> f64 {
         // A little lower, to keep clear of a departure above it.
@@ -211,7 +222,12 @@ fn reaches(story: &Story, count: u8) -> Vec<[f64; 2]> {
     for row in &story.rows {
         for mark in &row.marks {
             for side in [-1.0, 1.0] {
-                reach(mark.machine, side, pill_width(&mark.text) / 2.0 + 4.0);
+                let beside = match mark.kind {
+                    MarkKind::Withdrawal => BESIDE + RING,
+                    _ => 0.0,
+                };
+                let width = pill_width(&mark.text) / 2.0 + beside + 4.0;
+                reach(mark.machine, side, width);
             }
         }
         if let Some((flight, remark)) = &row.arrival {

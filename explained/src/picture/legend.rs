@@ -24,7 +24,7 @@ enum Sample {
     Letter(Rule),
 }
 
-const SAMPLES: [(Sample, &str); 19] = [
+const SAMPLES: [(Sample, &str); 21] = [
     (Sample::Packet(Kind::Ask, End::Delivered(0)), ""),
     (Sample::Packet(Kind::Grant, End::Delivered(0)), ""),
     (Sample::Packet(Kind::Data, End::Delivered(0)), ""),
@@ -33,6 +33,10 @@ const SAMPLES: [(Sample, &str); 19] = [
     (
         Sample::Packet(Kind::Ask, End::Lost(0)),
         "taken off the wire",
+    ),
+    (
+        Sample::Packet(Kind::Ask, End::Withdrawn(0)),
+        "taken back by the desk",
     ),
     (
         Sample::Packet(Kind::Ask, End::OnWire),
@@ -49,6 +53,7 @@ const SAMPLES: [(Sample, &str); 19] = [
     (Sample::Pill(MarkKind::Kept, "kept by the buddy"), ""),
     (Sample::Pill(MarkKind::Crash, "crash"), ""),
     (Sample::Pill(MarkKind::Restart, "restart, caught up"), ""),
+    (Sample::Pill(MarkKind::Withdrawal, "withdrawn"), ""),
     (Sample::Refusal, "refused: the question's number"),
 ];
 

@@ -1,13 +1,15 @@
-//! The marks that a frame leaves on the lanes: works and local messages, checkpoints and copies, crashes, restarts.
+//! The marks that a frame leaves on the lanes: works and local messages, checkpoints and copies, crashes, restarts, withdrawals.
 
 use crate::names::{count, message};
 use crate::play::Step;
-use crate::words::Done;
+use crate::words::{withdraw, Done};
 use reference::answer::Answer;
 use reference::frame::Frame;
 use reference::job::{ix, Job};
+use reference::limits::DESK;
+use reference::message::Logged;
 
-/// A mark on a lane. Marks of one lane stand one under another.
+/// A mark on a lane, the desk's being 0. Marks of one lane stand one under another.
 #[derive(Clone, Debug, PartialEq, Eq)]
 pub struct Mark {
     pub machine: u8,
@@ -26,6 +28,8 @@ pub enum MarkKind {
     Kept,
     Crash,
     Restart,
+    /// On the desk's lane.
+    Withdrawal,
 }
 
 pub fn marks(step: &Step) -> Vec<Mark> {
@@ -87,6 +91,12 @@ pub fn marks(step: &Step) -> Vec<Mark> {
                 mark(machine, MarkKind::Restart, "restart".to_string()),
                 mark(job.buddy_of(machine), MarkKind::Kept, copy),
             ]
+        }
+        (_, Frame::Withdraw { chare }) => {
+            let last = withdraw::taken_back(&step.before.world, chare).into_iter();
+            let text = |last: Logged| format!("{} withdrawn", message(DESK, chare, last.sn));
+            last.map(|last| mark(DESK, MarkKind::Withdrawal, text(last)))
+                .collect()
         }
         (_, Frame::Inject { .. } | Frame::Deliver(_)) => Vec::new(),
     }

@@ -1,10 +1,12 @@
 //! Draws the marks on the lanes, the end of catching up, and what a delivery led to.
 
+use super::arrows::colour;
 use super::layout::{pill_width, Layout, FROM_LANE};
 use super::marked::MarkKind;
 use super::record::Story;
 use super::routes::side;
 use super::svg::{Anchor, Area, Point, Svg};
+use reference::wire::Kind;
 
 const PILL_HEIGHT: f64 = 17.0;
 
@@ -18,6 +20,7 @@ fn look(kind: MarkKind) -> (&'static str, &'static str, &'static str) {
         MarkKind::Kept => ("#16762f", "#fff", ""),
         MarkKind::Crash => ("#8c1d18", "#b3261e", "class=\"light\""),
         MarkKind::Restart => ("#2f6fb5", "#dcebfa", ""),
+        MarkKind::Withdrawal => (colour(Kind::Ask), "#fff", ""),
     }
 }
 
@@ -32,7 +35,9 @@ pub fn put_pill(svg: &mut Svg, at: Point, kind: MarkKind, text: &str) {
         height: PILL_HEIGHT,
     };
     let round = match kind {
-        MarkKind::Work | MarkKind::Local | MarkKind::Show => PILL_HEIGHT / 2.0,
+        MarkKind::Work | MarkKind::Local | MarkKind::Show | MarkKind::Withdrawal => {
+            PILL_HEIGHT / 2.0
+        }
         _ => 2.0,
     };
     svg.rect(

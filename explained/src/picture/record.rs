@@ -63,14 +63,17 @@ pub struct Flight {
 pub enum End {
     OnWire,
     Delivered(usize),
+    /// Taken off the wire by a crash or a restart.
     Lost(usize),
+    /// Taken back by the desk.
+    Withdrawn(usize),
 }
 
 impl End {
     pub fn row(self) -> Option<usize> {
         match self {
             End::OnWire => None,
-            End::Delivered(row) | End::Lost(row) => Some(row),
+            End::Delivered(row) | End::Lost(row) | End::Withdrawn(row) => Some(row),
         }
     }
 }
@@ -133,8 +136,12 @@ impl Recorder {
             let remark = remark(outcome(done, name, content), machine);
             row.arrival = Some((flight, remark));
         }
+        let end = match done.frame {
+            Frame::Withdraw { .. } => End::Withdrawn(now),
+            _ => End::Lost(now),
+        };
         for &at in &done.change.gone {
-            self.story.flights[self.wire[at]].end = End::Lost(now);
+            self.story.flights[self.wire[at]].end = end;
         }
         let mut at = 0;
         self.wire.retain(|_| {

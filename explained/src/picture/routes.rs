@@ -19,7 +19,8 @@ pub fn side(flight: &Flight) -> f64 {
 /// The way of every flight, from its tail on.
 ///
 /// A packet leaves its lane level, beneath its label, goes down on a track between two lanes, and reaches its end level, in the row
-/// of its delivery. So it meets no mark and no label of other rows, and lies on no other packet's way.
+/// of its delivery; one that was taken back comes back to its lane so. So it meets no mark and no label of other rows, and lies on no
+/// other packet's way.
 pub fn routes(story: &Story, layout: &Layout) -> Vec<Vec<Point>> {
     (0..story.flights.len())
         .map(|at| route(story, layout, at))
@@ -34,16 +35,18 @@ fn route(story: &Story, layout: &Layout, at: usize) -> Vec<Point> {
         // Level, so that it keeps clear of the next row.
         return vec![tail, Point::new(tail.x + side * STUB, tail.y)];
     };
-    let head = Point::new(
-        layout.lane(flight.to) - side * (BAND + 1.0),
-        layout.moment(row),
-    );
+    let moment = layout.moment(row);
+    let head = Point::new(layout.lane(flight.to) - side * (BAND + 1.0), moment);
     let track = layout.track(story, at);
-    let down = [Point::new(track, tail.y), Point::new(track, head.y)];
+    let down = [Point::new(track, tail.y), Point::new(track, moment)];
     match flight.end {
         End::Delivered(_) if is_straight(story, at) => vec![tail, head],
         End::Delivered(_) => vec![tail, down[0], down[1], head],
-        _ => vec![tail, down[0], down[1]],
+        End::Withdrawn(_) => {
+            let back = Point::new(layout.beside_mark(&story.rows[row], side), moment);
+            vec![tail, down[0], down[1], back]
+        }
+        End::Lost(_) | End::OnWire => vec![tail, down[0], down[1]],
     }
 }
 

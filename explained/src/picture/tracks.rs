@@ -27,7 +27,7 @@ impl Tracks {
             let end = match flight.end {
                 End::OnWire => continue,
                 End::Delivered(_) if is_straight(story, at) => continue,
-                End::Delivered(row) | End::Lost(row) => row,
+                End::Delivered(row) | End::Lost(row) | End::Withdrawn(row) => row,
             };
             let here = &mut free[gutter(flight)];
             // What ends in a row does so above what goes out in it.

@@ -57,7 +57,7 @@ pub fn words(done: &Done, machine: u8) -> Vec<String> {
     lines
 }
 
-/// The packets that a crash or a restart took off the wire.
+/// The packets that a crash, a restart or a withdrawal took off the wire.
 pub fn gone(done: &Done) -> Vec<crate::traffic::Packet> {
     let packet = |&at: &usize| (done.before.wire.names()[at], done.before.wire.content(at));
     done.change.gone.iter().map(packet).collect()

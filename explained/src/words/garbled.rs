@@ -61,14 +61,15 @@ mod tests {
 
     #[test]
     fn reasons() {
-        let cases: [(&[u8], &str); 9] = [
+        let cases: [(&[u8], &str); 10] = [
             (b"", "the line is empty"),
             (b"1201\r", "the line ends in a carriage return"),
             (b"12 01", "character 3 is a space, no hexadecimal digit"),
             (b"12G1", "character 3, 'G', is no hexadecimal digit"),
             (b"120", "3 digits do not make pairs"),
-            (b"1701", "there is no kind 17"),
+            (b"1801", "there is no kind 18"),
             (b"12", "kind 12 has 2 bytes, this one 1"),
+            (b"170101", "kind 17 has 2 bytes, this one 3"),
             (b"0102", "a job has at least 3 bytes, this one 2"),
             (
                 b"01020101",

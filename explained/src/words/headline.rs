@@ -1,7 +1,7 @@
 //! A frame in a few words, for the margin of the picture.
 
 use super::crash::no_cover;
-use super::{letter, refusal};
+use super::{letter, refusal, withdraw};
 use crate::names::{self, count, message, short};
 use crate::play::Step;
 use reference::answer::{Answer, Rule};
@@ -52,6 +52,15 @@ pub fn headline(step: &Step) -> String {
         },
         Frame::Restart { machine } => format!("restart of machine {machine}"),
         Frame::Show { chare } => format!("show chare {chare}"),
+        Frame::Withdraw { chare } => match withdraw::taken_back(&step.before.world, chare) {
+            Some(last) => format!(
+                "withdraw {}, value {}: SN {} is free again",
+                message(DESK, chare, last.sn),
+                names::value(last.body.value),
+                last.sn
+            ),
+            None => String::new(),
+        },
     }
 }
 

@@ -12,6 +12,7 @@ mod range;
 pub mod refusal;
 mod restart;
 mod send;
+pub mod withdraw;
 
 use crate::names::{capital, origin, packet, place};
 use crate::play::Step;
@@ -91,6 +92,7 @@ fn accepted(done: &Done, answer: Answer) -> Vec<String> {
         Frame::Crash { machine } => crash::words(done, machine),
         Frame::Restart { machine } => restart::words(done, machine),
         Frame::Show { chare } => show(chare, answer),
+        Frame::Withdraw { chare } => withdraw::words(done, chare),
     };
     lines.extend(catching::words(done));
     lines

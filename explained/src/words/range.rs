@@ -24,7 +24,9 @@ pub fn reasons(job: Option<&Job>, frame: &Frame) -> Vec<String> {
             wrong.number("receiver", delivery.receiver.into(), 1, wrong.chares.into());
             wrong.number("SN", delivery.sn.into(), 1, MAX_NUMBER.into());
         }
-        Frame::Work { chare } | Frame::Show { chare } => wrong.chare(chare),
+        Frame::Work { chare } | Frame::Show { chare } | Frame::Withdraw { chare } => {
+            wrong.chare(chare);
+        }
         Frame::Checkpoint { machine } | Frame::Crash { machine } | Frame::Restart { machine } => {
             wrong.number("machine", machine.into(), 1, wrong.machines.into());
         }

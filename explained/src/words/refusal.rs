@@ -1,6 +1,6 @@
 //! Why a frame was refused: the question, and what was the matter.
 
-use super::{garbled, range};
+use super::{garbled, range, withdraw};
 use crate::names::{message, place, sender, short};
 use crate::play::Step;
 use crate::traffic::named;
@@ -39,6 +39,9 @@ fn asked(step: &Step, question: Question) -> String {
         Question::Up => "is the machine up?",
         Question::Present if work => "is the next TN received and noted?",
         Question::Present => "is the packet on the wire?",
+        Question::Withdrawable => {
+            "last message in the desk's log without a TN, its ASK on the wire, no ticket in the table?"
+        }
         Question::Number => "does every number stay at 60,000 or below?",
         Question::Window => return format!("new ticket: SN at most mark + {WINDOW_BITS}?"),
         Question::LogSpace => "space in the sender's log?",
@@ -70,6 +73,7 @@ pub fn reason(step: &Step, question: Question) -> String {
         },
         Question::Up => not_up(job, world, frame),
         Question::Present => not_present(world, frame),
+        Question::Withdrawable => not_withdrawable(world, frame),
         Question::Number => too_large(job, world, frame),
         Question::Window => outside_window(job, world, frame),
         Question::LogSpace => log_full(job, world, frame),
@@ -85,7 +89,9 @@ fn not_up(job: &Job, world: &World, frame: &Frame) -> String {
             return format!("machine {}, the buddy, is down", job.buddy_of(machine));
         }
         Frame::Checkpoint { machine } | Frame::Crash { machine } => machine,
-        Frame::Work { chare } | Frame::Show { chare } => job.machine_of(chare),
+        Frame::Work { chare } | Frame::Show { chare } | Frame::Withdraw { chare } => {
+            job.machine_of(chare)
+        }
         _ => named(frame).map_or(0, |name| destination(job, name)),
     };
     format!("{} is down", place(machine))
@@ -109,6 +115,13 @@ fn not_present(world: &World, frame: &Frame) -> String {
     match entry.received {
         None => format!("TN {next}, {what}, is not received"),
         Some(_) => format!("TN {next}, {what}, is not noted"),
+    }
+}
+
+fn not_withdrawable(world: &World, frame: &Frame) -> String {
+    match *frame {
+        Frame::Withdraw { chare } => withdraw::reason(world, chare),
+        _ => String::new(),
     }
 }
 

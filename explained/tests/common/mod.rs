@@ -4,6 +4,7 @@
 #![allow(dead_code)]
 
 pub mod run;
+pub mod steps;
 pub mod svg;
 
 use explained::engine;
