@@ -222,6 +222,21 @@ fn state_shows_what_is_rarer() {
             "25",
             "catching up: 1→2 #1 and 1→2 #2 in its logs have no TN",
         ),
+        (
+            "17-mistyped-value",
+            "5",
+            "  * last SN to chare 1: 1 (before: last SN to chare 1: 2)\n",
+        ),
+        (
+            "17-mistyped-value",
+            "5",
+            "  - log, 0→1 #2 (value 40 (hex 0028), hops 0): no TN yet\n",
+        ),
+        (
+            "17-mistyped-value",
+            "5",
+            "  - 110100010002  ASK 0→1 #2 from the desk to machine 1\n",
+        ),
     ] {
         let (_, out, _) = run(&["state", frame, &file(name)]);
         assert!(out.contains(want), "nowhere: {want}{out}");
@@ -244,6 +259,15 @@ fn next_says_what_is_accepted_and_what_is_blocked() {
     }
     let (_, out, _) = fed(&["next", "-"], b"1201\n");
     assert!(out.contains("No job is set"), "{out}");
+    // Of two injections to a chare the last one is told, of a chare without any nothing.
+    let words = "job 2 machines\nchare 1 on 1\nchare 2 on 2\nchare 3 on 2\ninject 1 value 3 hops 0\ninject 1 value 4 hops 0\n\
+                 inject 2 value 5 hops 0\ndeliver ASK 0>2 #1\n";
+    let (_, out, _) = fed(&["next", "-"], words.as_bytes());
+    let want = "\nInjections that can be withdrawn\n  withdraw 1               1701  Withdraw: the desk takes 0→1 #2 \
+                (value 4 (hex 0004), hops 0), its last message to chare 1, out of its log.\n\
+                \nInjections that cannot be withdrawn\n  withdraw 2               1702  12: ASK 0→2 #1 is no longer on the wire; \
+                it was delivered, and the table of chare 2 has its ticket, TN 1.\n\nThe desk, for instance\n";
+    assert!(out.contains(want), "{out}");
     let full = list("11-full-window");
     let full: Vec<&[u8]> = full.split_inclusive(|&b| b == b'\n').take(676).collect();
     let (_, out, _) = fed(&["next", "-"], &full.concat());

@@ -5,7 +5,7 @@ mod common;
 use common::{explained, list, names};
 use reference::generator;
 
-const FRAMES: [&str; 8] = [
+const FRAMES: [&str; 9] = [
     "Job: ",
     "Inject: ",
     " arrives at ",
@@ -14,10 +14,11 @@ const FRAMES: [&str; 8] = [
     "Crash of ",
     "Restart: ",
     "Show: ",
+    "Withdraw: ",
 ];
 
-const ANSWERS: [&str; 11] = [
-    "01", "02", "03", "04", "05", "06", "08", "09", "10", "11", "FF",
+const ANSWERS: [&str; 12] = [
+    "01", "02", "03", "04", "05", "06", "08", "09", "10", "11", "12", "FF",
 ];
 
 fn of_examples() -> String {
@@ -121,9 +122,12 @@ fn outcomes_of_examples_and_random_lists() {
             "kept and now noted",
             "so dropped: ",
             "so kept: ",
+            "out of its log.",
+            "leaves the wire.",
+            "is free again: the next injection to chare",
         ],
     );
-    for number in [1, 2, 3, 4, 5, 6, 8, 9, 10, 11] {
+    for number in [1, 2, 3, 4, 5, 6, 8, 9, 10, 11, 12] {
         check(&text, &[&format!("Refused by question {number},")]);
     }
     check(
@@ -139,6 +143,11 @@ fn outcomes_of_examples_and_random_lists() {
             "the table of chare",
             "of 64 notes are held",
             "the wire holds",
+            "the desk has sent no message to chare",
+            "is no longer in the desk's log; it is worked",
+            "in the desk's log.",
+            "is no longer on the wire; it was delivered",
+            "from the copy, though its ASK is on the wire again.",
         ],
     );
 }

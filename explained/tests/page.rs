@@ -52,6 +52,12 @@ fn every_frame_is_there() {
     assert!(html.contains("{\"head\":\"1402  crash 2  ->  FF\",\"text\":[\"Crash of machine 2 without cover: machine 1 is catching up;"));
     assert!(html
         .contains("[\"*\",\"the run is LOST: no frame is accepted any more (before: not lost)\"]"));
+    let html = made("17", &list("17-mistyped-value"));
+    assert!(html.contains(
+        "{\"head\":\"1701  withdraw 1  ->  00J\",\"text\":[\"Withdraw: the desk takes 0→1 #2 "
+    ));
+    assert!(html.contains("[\"-\",\"110100010002  ASK 0→1 #2 from the desk to machine 1\"]"));
+    assert!(html.contains(">0→1 #2 withdrawn</text>"));
 }
 
 /// Marks of the page's language in a list or its name stay text.

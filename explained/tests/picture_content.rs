@@ -112,6 +112,81 @@ fn a_local_message_is_seen() {
     assert_eq!(message - work, 20.0);
 }
 
+/// The rings with a cross, from the top: of the legend, then of packets that were taken back.
+fn rings(picture: &str) -> Vec<(f64, f64)> {
+    let ring = |circle: &&str| number(circle, "r") == 6.0;
+    let place = |circle| (number(circle, "cx"), number(circle, "cy"));
+    let rings: Vec<_> = shapes(picture, "<circle").filter(ring).map(place).collect();
+    // Both lines of each cross have its ring's middle.
+    for &(x, y) in &rings {
+        let middle = |line: &&str| {
+            number(line, "x1") + number(line, "x2") == 2.0 * x
+                && number(line, "y1") + number(line, "y2") == 2.0 * y
+        };
+        assert_eq!(shapes(picture, "<line").filter(middle).count(), 2);
+    }
+    let mut rings = rings;
+    rings.sort_by(|a, b| a.1.total_cmp(&b.1));
+    rings
+}
+
+/// The ASK of a message that is withdrawn comes back to the desk, and ends in a ring beside the mark on its lane.
+#[test]
+fn a_withdrawal_is_seen() {
+    let picture = example("17-mistyped-value");
+    let desk = place(&picture, "desk").0;
+    let (x, y) = place(&picture, "0→1 #2 withdrawn");
+    assert_eq!(x, desk);
+    let [sample, ring] = rings(&picture)[..] else {
+        panic!("{} rings", rings(&picture).len());
+    };
+    assert_eq!(ring.1, y - 4.5);
+    let pill = shapes(&picture, "<rect").find(|rect| number(rect, "y") == ring.1 - 8.5);
+    let pill = pill.expect("a mark");
+    assert_eq!(number(pill, "x") + number(pill, "width") + 9.0, ring.0);
+    // From the desk's lane out and back again.
+    let title = "sent at frame 3, withdrawn at frame 5</title>";
+    let (_, group) = picture.split_once(title).expect("an arrow");
+    let (group, _) = group.split_once("</g>").expect("an end");
+    let way = attribute(shapes(group, "<path").next().expect("a way"), "d");
+    assert!(way.starts_with(&format!("M{desk} ")), "{way}");
+    assert!(
+        way.ends_with(&format!("L{} {}", ring.0 + 6.0, ring.1)),
+        "{way}"
+    );
+    // The legend has both, and the margin says what left.
+    let (x, y) = place(&picture, "taken back by the desk");
+    assert!(x - sample.0 < 14.0 && y - 4.0 == sample.1, "{x}, {y}");
+    place(&picture, "withdrawn");
+    let words = column(&picture);
+    let want = "withdraw 0→1 #2, value 40 (hex 0028): SN 2 is free again inject 0→1 #2, value 4";
+    assert!(words.contains(want), "{words}");
+}
+
+/// All words at the margin.
+fn column(picture: &str) -> String {
+    let left = place(picture, "what happened").0;
+    let texts = shapes(picture, "<text").filter(|text| number(text, "x") == left);
+    texts.map(said).collect::<Vec<_>>().join(" ")
+}
+
+#[test]
+fn a_withdrawal_that_is_refused_says_why() {
+    let picture = example("18-too-late-to-withdraw");
+    let words = column(&picture);
+    for reason in [
+        "the desk has sent no message to chare 1, or has withdrawn each",
+        "ASK 0→1 #1 is no longer on the wire; it was delivered, and the table of chare 1 has its ticket, TN 1",
+        "the table of chare 1 has a ticket for 0→1 #1, TN 1 from the copy, though its ASK is on the wire again",
+        "0→1 #1, the last to chare 1, has its ticket, TN 1, in the desk's log",
+        "0→1 #1, the last to chare 1, is no longer in the desk's log; it is worked, and a checkpoint dropped it",
+    ] {
+        assert!(words.contains(reason), "{reason}");
+    }
+    // Nothing was taken back.
+    assert_eq!(rings(&picture).len(), 1);
+}
+
 /// Arrow and label of each packet say what it is and what became of it.
 #[test]
 fn a_packet_is_explained() {
@@ -131,12 +206,17 @@ fn a_packet_is_explained() {
             "GRANT 0→1 #1: TN 1: chare 1 gives 0→1 #1 TN 1, and waits for the message, \
              from machine 1 to the desk; sent at frame 4, taken off the wire at frame 5",
         ),
+        (
+            "17-mistyped-value",
+            "ASK 0→1 #2: the desk asks chare 1 for a ticket for 0→1 #2, from the desk to machine 1; \
+             sent at frame 3, withdrawn at frame 5",
+        ),
     ] {
         let picture = example(name);
         let group = |title| format!("<g class=\"packet\"><title>{title}");
         assert_eq!(picture.matches(&group(title)).count(), 2, "{title}");
-        // The seven packets of the legend need no words.
-        let packets = shapes(&picture, "<path").count() - 7;
+        // The eight packets of the legend need no words.
+        let packets = shapes(&picture, "<path").count() - 8;
         assert_eq!(picture.matches(&group("")).count(), 2 * packets);
     }
 }
