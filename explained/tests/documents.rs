@@ -190,7 +190,7 @@ fn the_frames_of_the_rules() {
         .into_iter()
         .filter(|row| row[0].starts_with('`') && row.len() == 3)
         .collect();
-    assert_eq!(rows.len(), 9);
+    assert_eq!(rows.len(), 10);
     for row in rows {
         // A job is given with its chares.
         let words = plain(&row[0])
@@ -236,6 +236,27 @@ fn the_sizes_of_the_rules() {
         ("open", format!("not worked, at most mark + {WINDOW_BITS}")),
     ] {
         assert_eq!(said(part), Some(size.as_str()), "{part}");
+    }
+}
+
+/// Every question once, in the order in which they are put: 12 where 06 stands.
+#[test]
+fn the_questions_of_the_rules() {
+    let rules = document("docs/RULES.md");
+    let (_, questions) = rules.split_once("\n## Questions\n").expect("questions");
+    let (questions, _) = questions.split_once("\n## ").expect("an end");
+    let lines: Vec<String> = rows(questions)
+        .into_iter()
+        .map(|row| row[0].clone())
+        .collect();
+    let want = "line 01 02 03 04 05 06 12 07 08 09 10 11";
+    assert_eq!(lines.join(" "), want);
+    let said = flowing("docs/RULES.md");
+    for words in [
+        "The numbers are not quite in order: 12 is put where 06 stands, before 07.",
+        "| `01` to `12` | refused: the number of the first question answered \"no\"; nothing has changed |",
+    ] {
+        assert!(said.contains(words), "the rules do not say: {words}");
     }
 }
 
