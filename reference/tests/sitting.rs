@@ -359,6 +359,7 @@ fn frames_are_read_as_they_are_written() {
         "1401",
         "1502",
         "160C",
+        "170C",
     ];
     for text in frames {
         let frame = parse(text.as_bytes()).unwrap();
