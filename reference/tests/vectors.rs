@@ -4,7 +4,7 @@ use reference::reader::answer_all;
 use std::fs;
 use std::path::Path;
 
-const LISTS: usize = 63;
+const LISTS: usize = 75;
 
 #[test]
 fn every_vector() {
