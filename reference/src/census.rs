@@ -1,12 +1,17 @@
 //! Counts of what a list has reached.
 
-use crate::answer::{Answer, Rule};
+use crate::answer::{Answer, Question, Rule};
+pub use crate::event::Event;
 use crate::frame::Frame;
+use crate::history::next_message;
 use crate::job::ix;
 use crate::limits::{HALF_WINDOW, MAX_SENDERS, WINDOW_BITS};
+use crate::message::{Body, Lookup, Message};
+use crate::reuse::Reuse;
 use crate::seen::{Reply, Seen};
 use crate::state::State;
 use crate::wire::Content;
+use crate::withdraw::LastInjected;
 use crate::world::Phase;
 use std::fmt;
 
@@ -23,57 +28,15 @@ fn place(answer: Answer) -> usize {
     }
 }
 
-/// Things worth reaching, counted by looking at the state before and after a frame.
-#[derive(Clone, Copy, Debug, PartialEq, Eq)]
-pub enum Event {
-    Crashed,
-    Restarted,
-    RestartWithHoles,
-    RestartStillCatchingUp,
-    HoleTaken,
-    CaughtUpLater,
-    CheckpointWhileCatchingUp,
-    CheckpointWhileDown,
-    LostWhileDown,
-    LostWhileCatchingUp,
-    LostWithoutCopy,
-    GrantOld,
-    GrantReceived,
-    GrantDropped,
-    DataDropped,
-    NotePresent,
-    AckWithoutEntry,
-    WorkWindow,
-    WorkLog,
-    WorkTable,
-    WorkWire,
-    AskTable,
-    AskWindow,
-    NoteListFull,
-    RestartTable,
-    RestartWire,
-    InjectWire,
-    LocalFilled,
-    /// An ASK was found worked by a bit in the window's upper half.
-    WorkedInUpperHalf,
-    /// The mark rose by half the window at once, by more, by the whole window.
-    HalfWindow,
-    OverHalfWindow,
-    WholeWindow,
-    /// It rose by less than half, and bits moved from the window's upper half to its lower one.
-    UpperHalfCameDown,
-}
-
-const EVENTS: usize = Event::UpperHalfCameDown as usize + 1;
-
 #[derive(Clone, Debug)]
 pub struct Census {
     pub answers: [u64; ANSWERS.len()],
     /// How often each letter ended a line, in the order of `Rule::ALL`.
     pub letters: [u64; Rule::ALL.len()],
-    events: [(Option<Event>, u64); EVENTS],
+    events: [(Option<Event>, u64); Event::COUNT],
     pub frames: u64,
     pub longest_wire: usize,
+    reuse: Reuse,
 }
 
 impl Census {
@@ -81,9 +44,10 @@ impl Census {
         Census {
             answers: [0; ANSWERS.len()],
             letters: [0; Rule::ALL.len()],
-            events: [(None, 0); EVENTS],
+            events: [(None, 0); Event::COUNT],
             frames: 0,
             longest_wire: 0,
+            reuse: Reuse::default(),
         }
     }
 
@@ -149,7 +113,13 @@ impl Census {
                 let logged = world.log(sender).0.iter().find(waits);
                 before.waiting = logged.is_some_and(|m| m.tn.is_none());
             }
+            Frame::Withdraw { chare }
+                if job.has_chare(chare) && world.is_up(job.machine_of(chare)) =>
+            {
+                before.last = Some(world.last_injected(chare));
+            }
             Frame::Work { chare } if job.has_chare(chare) => {
+                before.next = next_message(state, frame);
                 before.wire = world.wire.len();
                 before.logged = world.chare(chare).log.0.len();
                 before.marks = world.chare(chare).seen.map(|seen| seen.mark);
@@ -168,6 +138,7 @@ impl Census {
             self.add(Event::CaughtUpLater);
         }
         match (answer, frame) {
+            (Answer::Refused(_), Frame::Withdraw { .. }) => self.not_withdrawn(before, answer),
             (Answer::Refused(question), _) => self.refused(question as usize, frame),
             (Answer::Lost, _) => self.add(match before.phase {
                 Phase::Down => Event::LostWhileDown,
@@ -188,6 +159,31 @@ impl Census {
                 self.delivered(before, delivery.receiver, state);
             }
             (_, &Frame::Work { chare }) => self.worked(before, chare, state),
+            (_, Frame::Withdraw { .. }) => self.withdrawn(before.phase),
+            (_, Frame::Job(_)) => self.reuse = Reuse::default(),
+            (_, &Frame::Inject { chare, value, hops }) => {
+                let sn = state.world.desk.sent[ix(chare)];
+                if self.reuse.injected(chare, sn, Body { value, hops }) {
+                    self.add(Event::NumberReused);
+                }
+            }
+            _ => {}
+        }
+    }
+
+    fn withdrawn(&mut self, phase: Phase) {
+        self.add(Event::Withdrawn);
+        match phase {
+            Phase::Down => self.add(Event::WithdrawnWhileDown),
+            Phase::CatchingUp => self.add(Event::WithdrawnWhileCatchingUp),
+            Phase::Up => {}
+        }
+    }
+
+    fn not_withdrawn(&mut self, before: &Before, answer: Answer) {
+        match (answer, before.last) {
+            (Answer::Refused(Question::Up), _) => self.add(Event::WithdrawDown),
+            (Answer::Refused(Question::Withdrawable), Some(last)) => self.add(reason(&last)),
             _ => {}
         }
     }
@@ -250,6 +246,9 @@ impl Census {
         for (seen, mark) in me.seen.iter().zip(&before.marks) {
             self.rose(seen, seen.mark - mark);
         }
+        if before.next.is_some_and(|next| self.reuse.worked(&next)) {
+            self.add(Event::ReusedWorked);
+        }
     }
 
     fn rose(&mut self, seen: &Seen, rise: u16) {
@@ -278,6 +277,19 @@ fn is_grant(content: Content) -> bool {
     )
 }
 
+/// Why question 12 says no.
+fn reason(last: &LastInjected) -> Event {
+    match (last.logged, last.asks, last.ticket) {
+        (Lookup::Missing, false, None) if last.sn == 0 => Event::WithdrawNothing,
+        (Lookup::Missing, false, None) => Event::WithdrawDropped,
+        (Lookup::Ticketed(_), false, None) => Event::WithdrawWorked,
+        (Lookup::Ticketed(_), false, Some(_)) => Event::WithdrawTicketed,
+        (Lookup::Waiting(_), false, Some(_)) => Event::WithdrawAsked,
+        (Lookup::Waiting(_), true, Some(_)) => Event::WithdrawTicketAlone,
+        _ => Event::WithdrawStray,
+    }
+}
+
 /// What `Census::before` saw.
 #[derive(Clone, Debug, Default)]
 pub struct Before {
@@ -292,6 +304,9 @@ pub struct Before {
     wire: usize,
     logged: usize,
     marks: [u16; MAX_SENDERS],
+    /// What a work would work.
+    next: Option<Message>,
+    last: Option<LastInjected>,
 }
 
 impl Before {

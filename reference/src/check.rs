@@ -63,6 +63,7 @@ pub struct Checker {
     since_nothing: usize,
     pub quiet_moments: usize,
     pub from_nothing: usize,
+    pub after_withdrawals: usize,
 }
 
 impl Checker {
@@ -76,6 +77,7 @@ impl Checker {
             since_nothing: 0,
             quiet_moments: 0,
             from_nothing: 0,
+            after_withdrawals: 0,
         }
     }
 
@@ -96,9 +98,10 @@ impl Checker {
             begins_with(&history.sequences, &run.worked)?;
         }
         if withdrawn {
-            // A message less was sent: another run, which must still begin like the last.
+            // Other injections give another run, which must still begin like the last.
             *run = Run::new(job);
             self.injections = 0;
+            self.after_withdrawals += 1;
         }
         for injection in &history.injections[self.injections..] {
             run.inject(injection);

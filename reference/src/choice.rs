@@ -5,8 +5,9 @@ use crate::generator::Generator;
 use crate::hold::Held;
 use crate::job::{ix, Job};
 use crate::limits::{DESK, WIRE_SIZE};
+use crate::mistake::Mistake;
 use crate::mood::Order;
-use crate::outlook::{catching_up, is_refused, lacks_space, makes_space, workable};
+use crate::outlook::{catching_up, granted, is_refused, lacks_space, makes_space, workable};
 use crate::state::State;
 use crate::wire::{Kind, Name};
 use crate::world::{destination, World};
@@ -35,6 +36,9 @@ impl Generator {
                     chare = other;
                 }
             }
+        }
+        if let Some(Mistake::TakenBack(taken_back)) = self.mistake.take() {
+            chare = taken_back;
         }
         let mut hops = match rng.below(4) {
             0 => rng.between(0, self.mood.hops as usize) as u8,
@@ -223,8 +227,12 @@ impl Generator {
 
     pub(crate) fn crash(&mut self, job: &Job, state: &State) -> Frame {
         let world = &state.world;
+        let struck = self.struck.take().filter(|&m| world.has_cover(m));
         if self.is_doomed() {
             let machine = self.rng.between(1, job.machine_count() as usize) as u8;
+            return Frame::Crash { machine };
+        }
+        if let Some(machine) = struck {
             return Frame::Crash { machine };
         }
         let covered: Vec<u8> = job.machines().filter(|&m| world.has_cover(m)).collect();
@@ -249,13 +257,25 @@ impl Generator {
         if let Some(held) = self.held.filter(Held::is_of_chare) {
             let home = job.machine_of(held.name.sender());
             if covered.contains(&home) {
+                // After its checkpoint the receiver knows by its window alone what it has worked.
+                let there = job.machine_of(held.name.receiver());
+                if !self.mood.careless && !self.rng.one_in(4) {
+                    self.struck = Some(home);
+                    return Frame::Checkpoint { machine: there };
+                }
                 return Frame::Crash { machine: home };
             }
         }
         if given(machine) < 2 && self.rng.one_in(2) {
             return self.deliver(job, state);
         }
-        if self.bounds.crashing {
+        // A ticket that the copy knows and the desk does not: the message will ask again.
+        let careless = self.mood.careless || self.spares(job, world, machine);
+        if granted(job, world, machine) && !careless && self.rng.one_in(6) {
+            self.struck = Some(machine);
+            return Frame::Checkpoint { machine };
+        }
+        if self.bounds.crashing || self.rng.one_in(4) {
             self.hold_data(job, world, machine);
         }
         Frame::Crash { machine }

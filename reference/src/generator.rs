@@ -9,7 +9,9 @@ use crate::junk::{bad_job, blind_frame, put_garbled};
 use crate::layout::sized_job;
 use crate::limits::MAX_HOPS;
 use crate::load::Load;
+use crate::mistake::Mistake;
 use crate::mood::{Act, Mood, Theme, ACTS};
+use crate::outlook::asks_again;
 use crate::rng::Rng;
 use crate::state::State;
 use crate::world::Phase;
@@ -51,9 +53,12 @@ pub struct Generator {
     load: Option<Load>,
     /// Frames refused for want of space since the last one that was accepted.
     pub(crate) cramped: usize,
-    /// Was the last frame an inject, a delivery or a work?
-    moving: bool,
-    /// Frames since the last one of these that was accepted.
+    /// The last frame, if it was one.
+    pub(crate) last: Option<Frame>,
+    pub(crate) mistake: Option<Mistake>,
+    /// The machine to crash next: the last checkpoint was made for this crash.
+    pub(crate) struck: Option<u8>,
+    /// Frames since an inject, a delivery or a work was accepted.
     pub(crate) stuck: usize,
 }
 
@@ -97,7 +102,9 @@ impl Generator {
             held: None,
             load: None,
             cramped: 0,
-            moving: false,
+            last: None,
+            mistake: None,
+            struck: None,
             stuck: 0,
             mood,
             rng,
@@ -110,9 +117,16 @@ impl Generator {
         match answer {
             Answer::Accepted(_) => {
                 self.cramped = 0;
-                if self.moving {
+                let moves = |frame: &Frame| {
+                    matches!(
+                        frame,
+                        Frame::Inject { .. } | Frame::Deliver(_) | Frame::Work { .. }
+                    )
+                };
+                if self.last.as_ref().is_some_and(moves) {
                     self.stuck = 0;
                 }
+                self.look_back();
             }
             Answer::Refused(Question::LogSpace | Question::Space | Question::WireSpace) => {
                 self.cramped += 1;
@@ -210,7 +224,8 @@ impl Generator {
                 return put_digits(out, &bytes(&frame));
             }
         }
-        let frame = match self.act(state) {
+        let act = self.correction().unwrap_or_else(|| self.act(state));
+        let frame = match act {
             Act::Junk => {
                 return match self.rng.below(8) {
                     0 => put_digits(out, &bad_job(&mut self.rng)),
@@ -227,6 +242,7 @@ impl Generator {
             Act::Checkpoint => self.checkpoint(job, state),
             Act::Crash => self.crash(job, state),
             Act::Restart => self.restart(job, state),
+            Act::Withdraw => self.withdraw(job, state),
         };
         put_digits(out, &bytes(&frame));
     }
@@ -247,12 +263,16 @@ impl Generator {
         if self.is_doomed() && !state.lost && self.rng.one_in(8) {
             return Act::Crash;
         }
+        if self.struck.is_some() {
+            return Act::Crash;
+        }
         let down = state.world.phases.contains(&Phase::Down);
         if down && self.stuck > 12 && self.rng.one_in(3) {
             return Act::Restart;
         }
         // A crash empties much of the wire, so a stingy list fills it first.
         let wire = state.world.wire.len();
+        let trap = asks_again(&state.world).is_some();
         let mut weights = self.mood.acts;
         for (act, weight) in ACTS.iter().zip(&mut weights) {
             match act {
@@ -261,6 +281,7 @@ impl Generator {
                 Act::Crash if !state.world.all_well() => *weight = 0,
                 Act::Crash if self.mood.desk_only => *weight = 8 * u32::from(wire > 120),
                 Act::Crash => *weight = self.crash_weight(&state.world, *weight),
+                Act::Withdraw if trap => *weight *= 8,
                 _ => {}
             }
         }
@@ -269,20 +290,18 @@ impl Generator {
 
     /// Turns a crash without cover into a show, unless the list is near its end.
     fn keep_alive(&mut self, state: &State, start: usize, out: &mut Vec<u8>) {
-        let frame = parse(&out[start..]);
-        self.moving = matches!(
-            frame,
-            Some(Frame::Inject { .. } | Frame::Deliver(_) | Frame::Work { .. })
-        );
-        let (Some(job), Some(Frame::Crash { machine })) = (&state.job, frame) else {
+        self.last = parse(&out[start..]);
+        let (Some(job), Some(Frame::Crash { machine })) = (&state.job, self.last) else {
             return;
         };
         let safe = !job.has_machine(machine)
             || state.world.phases[ix(machine)] == Phase::Down
             || state.world.has_cover(machine);
         if !safe && !self.is_doomed() && !self.rng.one_in(4096) {
+            let show = Frame::Show { chare: 1 };
             out.truncate(start);
-            put_digits(out, &bytes(&Frame::Show { chare: 1 }));
+            put_digits(out, &bytes(&show));
+            self.last = Some(show);
         }
     }
 

@@ -20,8 +20,9 @@ pub struct History {
     copied: [usize; MAX_CHARES],
     /// The holes as an explicit set: made by a restart, used up by new tickets.
     pub holes: [BTreeSet<u16>; MAX_CHARES],
-    /// Restarts and withdrawals so far.
+    /// Restarts so far.
     pub restarts: usize,
+    /// Withdrawals so far.
     pub withdrawals: usize,
 }
 

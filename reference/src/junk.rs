@@ -1,7 +1,7 @@
 //! Lines that are no frames, and frames that are out of range or blind.
 
 use crate::encode::{bytes, put_digits};
-use crate::frame::{Delivery, Frame};
+use crate::frame::{Delivery, Frame, LEAST_LENGTH};
 use crate::layout::{random_job, Layout};
 use crate::limits::MAX_NUMBER;
 use crate::rng::Rng;
@@ -30,9 +30,14 @@ pub fn put_garbled(rng: &mut Rng, out: &mut Vec<u8>) {
             }
         }
         9 => {
+            // Some kind, mostly an unknown one; often the first behind those that are known.
             out.truncate(start);
-            let kind = rng.byte();
-            put_digits(out, &[kind, 1]);
+            let first_unknown = LEAST_LENGTH.len() as u8;
+            let kind = match rng.below(3) {
+                0 => first_unknown,
+                _ => rng.byte(),
+            };
+            put_digits(out, &[kind, 1, 1, 0, 1, 1][..rng.between(1, 6)]);
         }
         10 => {
             // A job cut short or with a byte too many.
@@ -100,7 +105,7 @@ pub fn blind_frame(rng: &mut Rng, machines: u8, chares: u8) -> Frame {
     };
     let chare = number(rng, chares);
     let machine = number(rng, machines);
-    match rng.below(16) {
+    match rng.below(17) {
         0..=1 => Frame::Inject {
             chare,
             value: rng.next() as u16,
@@ -130,6 +135,7 @@ pub fn blind_frame(rng: &mut Rng, machines: u8, chares: u8) -> Frame {
         12 => Frame::Crash { machine },
         13 => Frame::Restart { machine },
         14 => Frame::Job(random_job(rng, Layout::Any)),
-        _ => Frame::Show { chare },
+        15 => Frame::Show { chare },
+        _ => Frame::Withdraw { chare },
     }
 }

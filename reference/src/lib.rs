@@ -30,6 +30,7 @@ pub mod junk;
 pub mod layout;
 pub mod load;
 pub mod long;
+pub mod mistake;
 pub mod mood;
 pub mod outlook;
 pub mod rng;
@@ -37,7 +38,9 @@ pub mod rng;
 // Demand 3, checked on those lists.
 pub mod census;
 pub mod check;
+pub mod event;
 pub mod history;
+pub mod reuse;
 pub mod run;
 
 // The proved engine, to compare with.

@@ -56,9 +56,10 @@ pub enum Act {
     Show,
     Blind,
     Junk,
+    Withdraw,
 }
 
-pub const ACTS: [Act; 9] = [
+pub const ACTS: [Act; 10] = [
     Act::Inject,
     Act::Deliver,
     Act::Work,
@@ -68,6 +69,7 @@ pub const ACTS: [Act; 9] = [
     Act::Show,
     Act::Blind,
     Act::Junk,
+    Act::Withdraw,
 ];
 
 /// Which packet of the wire comes first.
@@ -97,6 +99,8 @@ pub struct Mood {
     pub hops: u8,
     /// How many works may be outstanding before nothing more is injected.
     pub budget: usize,
+    /// One injection in so many is a mistake, taken back at once.
+    pub errs: usize,
     /// How many frames in a row may be refused for want of space before checkpoints follow.
     pub patience: usize,
     /// How many frames the mood lasts.
@@ -106,8 +110,8 @@ pub struct Mood {
 impl Mood {
     pub fn random(rng: &mut Rng, theme: Theme) -> Mood {
         let mut mood = Mood {
-            //     inject deliver work check crash restart show blind junk
-            acts: [12, 50, 25, 4, 1, 12, 2, 2, 1],
+            //     inject deliver work check crash restart show blind junk withdraw
+            acts: [12, 50, 25, 4, 1, 12, 2, 2, 1, 2],
             kinds: [8; 5],
             order: *rng.pick(&[Order::Oldest, Order::Newest, Order::Any, Order::Any]),
             desk_only: false,
@@ -116,6 +120,7 @@ impl Mood {
             careless: false,
             hops: *rng.pick(&[0, 1, 2, 7, 7]),
             budget: *rng.pick(&[4, 8, 12, 12, 24]),
+            errs: *rng.pick(&[6, 30, 100]),
             patience: *rng.pick(&[1, 2, 4, 8]),
             lasts: rng.between(100, 700),
         };
@@ -125,7 +130,7 @@ impl Mood {
         match theme {
             Theme::Steady => {}
             Theme::Stingy => {
-                mood.acts = [20, 40, 25, 5, 1, 6, 1, 1, 1];
+                mood.acts = [20, 40, 25, 5, 1, 6, 1, 1, 1, 1];
                 mood.desk_only = true;
                 mood.hops = *rng.pick(&[1, 1, 1, 2]);
                 mood.budget = 400;
@@ -133,7 +138,7 @@ impl Mood {
                 mood.lasts = rng.between(600, 1500);
             }
             Theme::Local => {
-                mood.acts = [10, 45, 35, 2, 1, 12, 1, 1, 1];
+                mood.acts = [10, 45, 35, 2, 1, 12, 1, 1, 1, 1];
                 mood.acts[4] = rng.below(2) as u32;
                 mood.spares_crowd = true;
                 mood.hops = 7;
@@ -142,7 +147,7 @@ impl Mood {
                 mood.lasts = rng.between(300, 900);
             }
             Theme::Crashing => {
-                mood.acts = [12, 45, 25, 8, 9, 12, 2, 2, 1];
+                mood.acts = [12, 45, 25, 8, 11, 12, 2, 2, 1, 4];
                 // A packet kind that lags is lost with its giver, which leaves holes.
                 mood.kinds[*rng.pick(&[0, 1, 1, 1, 2, 3, 3, 4])] = rng.between(1, 3) as u32;
                 mood.order = *rng.pick(&[Order::Newest, Order::Any]);
@@ -150,7 +155,7 @@ impl Mood {
                 mood.hops = *rng.pick(&[0, 1, 2, 7]);
             }
             Theme::Holding => {
-                mood.acts = [16, 55, 30, 4, 1, 20, 1, 1, 1];
+                mood.acts = [16, 55, 30, 4, 1, 20, 1, 1, 1, 1];
                 mood.holds = true;
                 mood.hops = u8::from(rng.one_in(3));
                 mood.budget = 8;
@@ -158,11 +163,11 @@ impl Mood {
                 mood.lasts = rng.between(1000, 3000) * (1 + mood.hops as usize);
             }
             Theme::Careless => {
-                mood.acts = [14, 45, 30, 0, 1, 12, 2, 3, 1];
+                mood.acts = [14, 45, 30, 0, 1, 12, 2, 3, 1, 2];
                 mood.careless = true;
                 mood.patience = 30;
             }
-            Theme::Blind => mood.acts = [10, 30, 15, 3, 1, 8, 5, 40, 10],
+            Theme::Blind => mood.acts = [10, 30, 15, 3, 1, 8, 5, 40, 10, 4],
         }
         mood
     }

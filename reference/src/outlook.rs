@@ -1,7 +1,8 @@
 //! What a state allows next, as far as can be seen at once.
 
-use crate::job::Job;
+use crate::job::{ix, Job};
 use crate::limits::{DESK, LOG_SIZE, TABLE_SIZE};
+use crate::message::Lookup;
 use crate::seen::Reply;
 use crate::wire::{Kind, Name};
 use crate::world::{Phase, World};
@@ -61,4 +62,34 @@ pub fn makes_space(job: &Job, world: &World, machine: u8) -> bool {
                 job.machine_of(m.receiver) == machine && m.tn.is_some_and(|tn| tn < height)
             })
         })
+}
+
+/// The chares from which the desk can take its last message back.
+pub fn withdrawable<'a>(job: &'a Job, world: &'a World) -> impl Iterator<Item = u8> + 'a {
+    job.chares().filter(|&chare| {
+        let last = world.last_injected(chare);
+        let open = last.asks && last.ticket.is_none();
+        world.is_up(job.machine_of(chare)) && open && matches!(last.logged, Lookup::Waiting(_))
+    })
+}
+
+/// Is a GRANT of this machine's for the desk's last message to some chare under way?
+pub fn granted(job: &Job, world: &World, machine: u8) -> bool {
+    job.chares_on(machine).any(|chare| {
+        let sn = world.desk.sent[ix(chare)];
+        let grant = Name::new(Kind::Grant, DESK, chare, sn);
+        world.wire.find(grant).is_some()
+    })
+}
+
+/// A chare whose last message from the desk asks again, though its ticket is in the table.
+pub fn asks_again(world: &World) -> Option<u8> {
+    let mut waiting = world.desk.log.0.iter().filter(|m| m.tn.is_none());
+    let found = waiting.find(|m| {
+        let last = m.sn == world.desk.sent[ix(m.receiver)];
+        let ticket = world.chare(m.receiver).table.find(DESK, m.sn);
+        let ask = Name::new(Kind::Ask, DESK, m.receiver, m.sn);
+        last && ticket.is_some() && world.wire.find(ask).is_some()
+    });
+    found.map(|m| m.receiver)
 }

@@ -12,10 +12,12 @@ use reference::state::State;
 #[test]
 fn random_lists() {
     let mut census = Census::new();
-    let mut quiet_moments = 0;
+    let (mut quiet_moments, mut after_withdrawals) = (0, 0);
     let plain = (0..150).map(|seed| (seed, Generator::new(seed, 2000)));
     let crashing = (0..50).map(|seed| (seed, Generator::crashing(seed, 2000)));
-    for (seed, mut generator) in plain.chain(crashing) {
+    // Long enough to use the upper half of a window and crash then.
+    let long = (150..200).map(|seed| (seed, Generator::new(seed, 8000)));
+    for (seed, mut generator) in plain.chain(crashing).chain(long) {
         let mut list = Checked::new();
         let mut line = Vec::new();
         while generator.next(&list.state, &mut line) {
@@ -39,8 +41,10 @@ fn random_lists() {
             line.clear();
         }
         quiet_moments += list.checker.quiet_moments;
+        after_withdrawals += list.checker.after_withdrawals;
     }
     assert!(quiet_moments > 100_000, "{quiet_moments}");
+    assert!(after_withdrawals > 1000, "{after_withdrawals}");
     assert!(census.has_all_but_07(), "{census}");
     assert!(census.unseen_letters().is_empty(), "{census}");
     for event in [

@@ -15,6 +15,7 @@ struct Totals {
     lists: u64,
     quiet_moments: usize,
     from_nothing: usize,
+    after_withdrawals: usize,
 }
 
 impl Totals {
@@ -22,6 +23,7 @@ impl Totals {
         self.lists += 1;
         self.quiet_moments += list.checker.quiet_moments;
         self.from_nothing += list.checker.from_nothing;
+        self.after_withdrawals += list.checker.after_withdrawals;
     }
 }
 
@@ -112,6 +114,7 @@ fn main() -> ExitCode {
             );
             println!("quiet moments checked {}", totals.quiet_moments);
             println!("of these from nothing {}", totals.from_nothing);
+            println!("of these after withdrawals {}", totals.after_withdrawals);
             print!("{}", totals.census);
             let unseen = ANSWERS.iter().zip(&totals.census.answers);
             let unseen: Vec<&str> = unseen.filter(|(_, &n)| n == 0).map(|(a, _)| *a).collect();
