@@ -4,11 +4,22 @@ use explained::lines::cut;
 use explained::state::{compared, Mark};
 use reference::generator;
 use reference::state::State;
+use reference::world::World;
 
 fn marked(before: &State, after: &State) -> usize {
     let sections = compared(before, after);
     let entries = sections.iter().flat_map(|section| &section.entries);
     entries.filter(|entry| entry.mark != Mark::Same).count()
+}
+
+/// A state with no more of a chare's highest TN at its restart than the rules read: the holes below it. A checkpoint may change the
+/// rest, and nobody sees it.
+fn read(mut state: State) -> State {
+    let World { chares, copies, .. } = &mut state.world;
+    for chare in chares.iter_mut().chain(copies) {
+        chare.restart_high = chare.holes().last().map_or(0, |hole| hole + 1);
+    }
+    state
 }
 
 #[test]
@@ -18,8 +29,9 @@ fn a_change_is_marked_and_nothing_else() {
         for (at, line) in cut(&generator::list(seed, 300)).into_iter().enumerate() {
             let before = state.clone();
             state.line(line);
-            let changed = marked(&before, &state) > 0;
-            assert_eq!(changed, before != state, "seed {seed}, frame {}", at + 1);
+            let changed = read(before.clone()) != read(state.clone());
+            let marked = marked(&before, &state) > 0;
+            assert_eq!(marked, changed, "seed {seed}, frame {}", at + 1);
         }
     }
 }
