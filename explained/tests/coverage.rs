@@ -32,7 +32,7 @@ fn of_random_lists() -> String {
     // Two of the longer ones fill the wire.
     let lists = (0..80)
         .map(|seed| (seed, 1500))
-        .chain([(106, 3000), (243, 3000)]);
+        .chain([(87, 3000), (134, 3000)]);
     let lists = lists.map(|(seed, frames)| generator::list(seed, frames));
     lists.map(|input| explained(&input).text).collect()
 }
@@ -75,7 +75,12 @@ fn outcomes_of_examples_and_random_lists() {
     let random = of_random_lists();
     check(
         &random,
-        &["Refused by question 8,", "Refused by question 11,"],
+        &[
+            "Refused by question 8,",
+            "Refused by question 11,",
+            "Refused by question 12,",
+            "Withdraw: ",
+        ],
     );
     let text = of_examples() + &random;
     check(&text, &FRAMES);

@@ -176,7 +176,9 @@ fn texts_and_marks_lie_apart() {
 
 #[test]
 fn no_arrow_crosses_a_mark() {
+    let mut withdrawn = 0;
     for (name, picture) in pictures() {
+        withdrawn += picture.matches(", withdrawn at frame ").count();
         let marks = marks(picture);
         for way in ways(picture) {
             for mark in &marks {
@@ -184,6 +186,8 @@ fn no_arrow_crosses_a_mark() {
             }
         }
     }
+    // Packets that come back to the desk are among them.
+    assert!(withdrawn > 20, "{withdrawn} withdrawn");
 }
 
 #[test]

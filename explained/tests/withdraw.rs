@@ -125,7 +125,7 @@ fn a_chare_that_is_not_there_or_down() {
 }
 
 /// How often each reason was looked at, and how many withdrawals were accepted.
-#[derive(Default)]
+#[derive(Debug, Default)]
 struct Counts {
     dropped: usize,
     delivered: usize,
@@ -133,7 +133,7 @@ struct Counts {
     withdrawn: usize,
 }
 
-/// The words say how it came to a reason. In random lists, with withdrawals put among their frames, it came so each time.
+/// The words say how it came to a reason. In random lists it came so each time.
 #[test]
 fn how_it_came_to_a_reason() {
     let mut counts = Counts::default();
@@ -141,28 +141,27 @@ fn how_it_came_to_a_reason() {
         let mut state = State::new();
         // The SNs of the desk's messages to each chare whose tickets came from the copy at its machine's last restart.
         let mut copied: [Vec<u16>; MAX_CHARES] = Default::default();
-        for (at, line) in cut(&generator::list(seed, 600)).into_iter().enumerate() {
+        for line in cut(&generator::list(seed, 600)) {
             let before = state.clone();
             let accepted = state.line(line).is_accepted();
-            let Some(job) = state.job.clone() else {
+            let Some(job) = &state.job else {
                 continue;
             };
-            if let (true, Some(Frame::Restart { machine })) = (accepted, parse(line)) {
-                for chare in job.chares_on(machine) {
-                    let entries = before.world.copies[ix(chare)].table.0.iter();
-                    let entries = entries.filter(|entry| entry.sender == DESK);
-                    copied[ix(chare)] = entries.map(|entry| entry.sn).collect();
+            match parse(line).filter(|_| accepted) {
+                Some(Frame::Withdraw { .. }) => counts.withdrawn += 1,
+                Some(Frame::Restart { machine }) => {
+                    for chare in job.chares_on(machine) {
+                        let entries = before.world.copies[ix(chare)].table.0.iter();
+                        let entries = entries.filter(|entry| entry.sender == DESK);
+                        copied[ix(chare)] = entries.map(|entry| entry.sn).collect();
+                    }
                 }
+                _ => {}
             }
             for chare in job.chares() {
                 if state.world.is_up(job.machine_of(chare)) {
                     look(&state, chare, &copied[ix(chare)], &mut counts);
                 }
-            }
-            if at % 5 == 0 {
-                let chare = (at / 5 % usize::from(job.chare_count())) as u8 + 1;
-                let answer = state.step(&Frame::Withdraw { chare });
-                counts.withdrawn += usize::from(answer.is_accepted());
             }
         }
     }
@@ -172,7 +171,8 @@ fn how_it_came_to_a_reason() {
         copied,
         withdrawn,
     } = counts;
-    assert!(dropped > 0 && delivered > 0 && copied > 0 && withdrawn > 0);
+    let least = dropped.min(delivered).min(copied).min(withdrawn);
+    assert!(least > 20, "{counts:?}");
 }
 
 fn look(state: &State, chare: u8, copied: &[u16], counts: &mut Counts) {
