@@ -62,12 +62,12 @@ pub fn wrapped(text: &str, indent: usize, width: usize) -> String {
     out
 }
 
-/// Words, but names such as "TN 4" and "0→1 #2" in one piece.
+/// Words, but names such as "TN 4", "SN 2" and "0→1 #2" in one piece.
 fn words(text: &str) -> Vec<String> {
     let mut words: Vec<String> = Vec::new();
     for word in text.split(' ') {
         match words.last_mut() {
-            Some(last) if last.ends_with("TN") || word.starts_with('#') => {
+            Some(last) if last.ends_with("TN") || last.ends_with("SN") || word.starts_with('#') => {
                 last.push(' ');
                 last.push_str(word);
             }
@@ -101,6 +101,7 @@ mod tests {
     fn wrapped_between_words() {
         assert_eq!(wrapped("one two three", 2, 9), "  one two\n  three\n");
         assert_eq!(wrapped("of 0→1 #2 TN 4", 0, 6), "of\n0→1 #2\nTN 4\n");
+        assert_eq!(wrapped("is SN 2", 0, 5), "is\nSN 2\n");
         assert_eq!(
             wrapped("longer than the width", 0, 3),
             "longer\nthan\nthe\nwidth\n"
