@@ -116,7 +116,7 @@ fn a_local_message_is_seen() {
 fn rings(picture: &str) -> Vec<(f64, f64)> {
     let ring = |circle: &&str| number(circle, "r") == 6.0;
     let place = |circle| (number(circle, "cx"), number(circle, "cy"));
-    let rings: Vec<_> = shapes(picture, "<circle").filter(ring).map(place).collect();
+    let mut rings: Vec<_> = shapes(picture, "<circle").filter(ring).map(place).collect();
     // Both lines of each cross have its ring's middle.
     for &(x, y) in &rings {
         let middle = |line: &&str| {
@@ -125,7 +125,6 @@ fn rings(picture: &str) -> Vec<(f64, f64)> {
         };
         assert_eq!(shapes(picture, "<line").filter(middle).count(), 2);
     }
-    let mut rings = rings;
     rings.sort_by(|a, b| a.1.total_cmp(&b.1));
     rings
 }

@@ -34,7 +34,7 @@ pub fn words(done: &Done, chare: u8) -> Vec<String> {
     lines
 }
 
-/// The first "no" of question 12, in the order log, ASK, table. How it came to that is told too: in every list it came in the same way.
+/// The first "no" of question 12, in the order log, ASK, table, and how it came to that: in every list it came in the same way.
 pub fn reason(world: &World, chare: u8) -> String {
     let last = world.last_injected(chare);
     let LastInjected { sn, logged, .. } = last;
