@@ -1,7 +1,7 @@
 -- A frame as the code has it.
 use Rattle.lists.specs.Basics.{cond, _&&_, Option, some, none, _≡_, ℕ, _+_, _*_, _≤_, _/_, eqb, length, getD, drop}
-use Rattle.protocol.specs.Frames.{Line, least-length, parts, job, inject, deliver, work, checkpoint, crash, restart, show}
-use Rattle.frames.specs.{Decode.{decoded, is-hexadecimal}, declared.Frame.the-variants.{Garbled, Job, Inject, Deliver, Work, Checkpoint, Crash, Restart, Show}}
+use Rattle.protocol.specs.Frames.{Line, least-length, parts, job, inject, deliver, work, checkpoint, crash, restart, show, withdraw}
+use Rattle.frames.specs.{Decode.{decoded, is-hexadecimal}, declared.Frame.the-variants.{Garbled, Job, Inject, Deliver, Work, Checkpoint, Crash, Restart, Show, Withdraw}}
 use Rattle.frames.specs.declared.Frame.{Frame}
 use Rattle.protocol.specs.Frames
 
@@ -16,6 +16,7 @@ read-as (some (checkpoint p)) = Checkpoint p
 read-as (some (crash p)) = Crash p
 read-as (some (restart p)) = Restart p
 read-as (some (show c)) = Show c
+read-as (some (withdraw c)) = Withdraw c
 
 -- The other way: what a frame as the code has it says of its line.
 unfoldable pub meaning : Line → Frame → Option Frames.Frame
@@ -28,6 +29,7 @@ meaning l (Checkpoint p) = some (checkpoint p)
 meaning l (Crash p) = some (crash p)
 meaning l (Restart p) = some (restart p)
 meaning l (Show c) = some (show c)
+meaning l (Withdraw c) = some (withdraw c)
 
 -- A line of kind 01, m its least length.
 unfoldable pub job-as : Line → ℕ → Frame
@@ -36,7 +38,7 @@ job-as l m = cond (is-hexadecimal l && eqb (length l / 2) (m + getD (decoded l) 
 -- n characters are the length of kind k, which is not the job.
 pub record Sized (n k : ℕ) : Type 0 where
   pub some-pair : 2 ≤ n
-  pub known : k ≤ 22
+  pub known : k ≤ 23
   pub other : k ≡ 1 → ⊥
   pub exact : n ≡ 2 * least-length k
 

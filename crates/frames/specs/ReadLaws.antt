@@ -29,14 +29,14 @@ module _ (l : Line) (k : ℕ) (h : 2 ≤ length l) (is-kind : k ≡ getD (codes 
   kind-byte : k ≤ 255 → getD (decoded l) 0 0 ≡ k
   kind-byte s = omega (arith, coded-at l 0 .0)
 
-  pub frame-unknown : 22 < k → Garbled ≡ read-as (frame l)
+  pub frame-unknown : 23 < k → Garbled ≡ read-as (frame l)
   unfolding read-as is-whole least-length least
   frame-unknown u = elim (kind-judged l h k is-kind) [
     | inl p ↦ rw (frame-cond l, kind-byte (p .0), List·getD-eq-default least 0 {n = k} u, and-false (is-hexadecimal l))
     | inr p ↦ rw (frame-cond l, p .1)
   ]
 
-  module _ (known : k ≤ 22) (m : ℕ) (is-least : m ≡ least-length k) where
+  module _ (known : k ≤ 23) (m : ℕ) (is-least : m ≡ least-length k) where
     pub frame-job : k ≡ 1 → job-as l m ≡ read-as (frame l)
     unfolding job-as read-as parts is-whole exact-length least-length least
     frame-job e =
@@ -80,4 +80,4 @@ module _ (l : Line) where
 
   pub frame-meaning : frame l ≡ meaning l (read-as (frame l))
   unfolding parts read-as meaning
-  frame-meaning = rw (frame-cond l) (search kept depth 12)
+  frame-meaning = rw (frame-cond l) (search kept depth 13)

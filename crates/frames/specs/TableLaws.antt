@@ -16,13 +16,13 @@ below-at p (suc n) k e h = ⊎-elim (λ (i : k ≡ n). rw i (and-l (p n) (below 
 single-entry : ℕ → Bool
 single-entry k = eqb k 1 || eqb k 16 || eqb k 17 || eqb (least-length k) 0 || (ltb 17 k && eqb (least-length k) 2)
 
-all-entries : below single-entry 23 ≡ true
+all-entries : below single-entry 24 ≡ true
 unfolding below single-entry least-length least
 all-entries = refl
 
-pub least-small : (k m : ℕ) → k ≤ 22 → m ≡ least-length k → m ≤ 6
+pub least-small : (k m : ℕ) → k ≤ 23 → m ≡ least-length k → m ≤ 6
 unfolding below least-length least
-least-small k m h e = rw e (leb-true (least-length k) 6 (below-at (λ k. leb (least-length k) 6) 23 k refl (omega arith)))
+least-small k m h e = rw e (leb-true (least-length k) 6 (below-at (λ k. leb (least-length k) 6) 24 k refl (omega arith)))
 
 -- the kinds but 01, 10 and 11
 module _ (n k : ℕ) (z : Sized n k) (b : k ≡ 16 → ⊥) (c : k ≡ 17 → ⊥) where
@@ -30,7 +30,7 @@ module _ (n k : ℕ) (z : Sized n k) (b : k ≡ 16 → ⊥) (c : k ≡ 17 → �
   unfolding single-entry
   single =
       let some : least-length k ≡ 0 → ⊥ = λ e. omega arith in
-      rw (ne-eqb k 1 (z .other), ne-eqb k 16 b, ne-eqb k 17 c, ne-eqb (least-length k) 0 some) at (below-at single-entry 23 k all-entries (omega arith))
+      rw (ne-eqb k 1 (z .other), ne-eqb k 16 b, ne-eqb k 17 c, ne-eqb (least-length k) 0 some) at (below-at single-entry 24 k all-entries (omega arith))
 
   pub single-line : (n ≡ 4) × (17 < k)
   single-line =

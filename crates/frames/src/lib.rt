@@ -9,7 +9,7 @@ ghost use Rattle.frames.specs.Codes.{digit-code, codes};
 ghost use Rattle.frames.specs.Read.{read-as, job-as, behind-kind, Sized};
 
 // The least length of each kind of frame, by kind; 0 is no kind.
-const LEAST: [u8; 23] = [
+const LEAST: [u8; 24] = [
     0,
     3,
     0,
@@ -28,6 +28,7 @@ const LEAST: [u8; 23] = [
     0,
     5,
     6,
+    2,
     2,
     2,
     2,
@@ -54,6 +55,7 @@ pub enum Frame {
     Crash(u8),
     Restart(u8),
     Show(u8),
+    Withdraw(u8),
 }
 
 // What stands for a character that is no digit: more than the bytes of a frame together, the job's apart, so
@@ -201,6 +203,7 @@ fn single(line: &[u8], kind: usize) -> Frame
         0x14 => Frame::Crash(narrow(x)),
         0x15 => Frame::Restart(narrow(x)),
         0x16 => Frame::Show(narrow(x)),
+        0x17 => Frame::Withdraw(narrow(x)),
         _ => Frame::Garbled,
     }
 }
@@ -224,7 +227,7 @@ pub fn read(line: &[u8]) -> Frame
         return Frame::Garbled;
     }
     let kind = pair(line, 0);
-    if 22 < kind {
+    if 23 < kind {
         return Frame::Garbled;
     }
     let least = LEAST[kind];

@@ -52,6 +52,14 @@ returns-6 c =
 returns-7 : tie.Need-returns-7
 unfolding parts read-as sum-of
 returns-7 c =
+    let e = c .before .before in
+    let s = e .before .before .before in
+    let l = s .args .line .now in
+    rw (behind-parts l _ 1 _ (s .pre .0) (e .if1 .left) (omega arith), c .before .match .keys6, coded-at l 1 .0, c .narrow6 .ensures, e .before .pair .ensures)
+
+returns-8 : tie.Need-returns-8
+unfolding parts read-as sum-of
+returns-8 c =
     let e = c .before in
     let p = e .before in
     let s = p .before .before in
@@ -62,6 +70,7 @@ returns-7 c =
       ne-eqb k 0x01 (λ h. omega (arith, s .pre .1)),
       ne-eqb k 0x10 (λ h. omega (arith, s .pre .1)),
       ne-eqb k 0x11 (λ h. omega (arith, s .pre .1)),
+      ne-eqb _ _ (r .0 .0 .0 .0 .0 .1),
       ne-eqb _ _ (r .0 .0 .0 .0 .1),
       ne-eqb _ _ (r .0 .0 .0 .1),
       ne-eqb _ _ (r .0 .0 .1),
@@ -80,9 +89,11 @@ single-spec =
     (λ c κs. search needs)
     (λ c κs. search needs)
     (λ c κs. search needs)
+    (λ c κs. search needs)
     returns-2
     returns-3
     returns-4
     returns-5
     returns-6
-    returns-7)
+    returns-7
+    returns-8)
