@@ -17,7 +17,8 @@ ghost use Rattle.packets.specs.Words.{content-of, unpacked, fitted, pack
 ghost use Rattle.packets.specs.Packing.{bare, Packs};
 ghost use Rattle.packets.specs.View.{sought};
 ghost use Rattle.packets.specs.Names.{has-name};
-ghost use Rattle.packets.specs.Stays.{stays};
+ghost use Rattle.packets.specs.Stays.{stays, is-kept};
+use head::HEAD;
 use item::Item;
 use item::KIND;
 use protocol::Content;
@@ -29,6 +30,18 @@ use words::PEER;
 pub enum Found {
     Nothing,
     At { place: usize, packet: Packet },
+}
+
+// Which packets leave the wire together: those that a machine's crash takes, or its restart, or all of a name.
+enum Leaving {
+    Crash(u8),
+    Restart(u8),
+    Named {
+        kind: u8,
+        sender: u8,
+        receiver: u8,
+        sn: u16,
+    },
 }
 
 fn made(kind: u8, flags: u8, tn: u16, value: u16, hops: u8) -> Item
@@ -202,10 +215,43 @@ fn stays(crash: bool, h: &[u64], p: u8, w: u64) -> bool
     k != 4
 }
 
-// Those that stay move down, in their order.
-fn sift(crash: bool, ws: &mut [u64], h: &[u64], p: u8)
+fn is_named(w: u64, k: u8, sender: u8, receiver: u8, sn: u16) -> bool
+    ensures { λ r. ⌜ r ≡ is-named k sender receiver sn (unpacked w) ⌝ }
+{
+    if kind(w) != k {
+        return false;
+    }
+    let x = item::unpack(w);
+    if x.owner != sender {
+        return false;
+    }
+    if x.peer != receiver {
+        return false;
+    }
+    x.sn == sn
+}
+
+// A word's packet is none of those that leave; a name asks nothing of the head.
+fn is_kept(l: Leaving, h: &[u64], w: u64) -> bool
     requires { ⌜ HEAD ≤ length (now h) ⌝ }
-    ensures { λ _. ⌜ Becomes packets (now (ws .entry)) (now (ws .exit)) (keep (stays crash (job-of (now (h .entry))) p) (packets (now (ws .entry)))) ⌝ }
+    ensures { λ r. ⌜ r ≡ is-kept l (job-of (now (h .entry))) (unpacked w) ⌝ }
+{
+    match l {
+        Leaving::Crash(p) => stays(true, h, p, w),
+        Leaving::Restart(p) => stays(false, h, p, w),
+        Leaving::Named {
+            kind,
+            sender,
+            receiver,
+            sn,
+        } => !is_named(w, kind, sender, receiver, sn),
+    }
+}
+
+// Those that are kept move down, in their order.
+fn sift(l: Leaving, ws: &mut [u64], h: &[u64])
+    requires { ⌜ HEAD ≤ length (now h) ⌝ }
+    ensures { λ _. ⌜ Becomes packets (now (ws .entry)) (now (ws .exit)) (keep (is-kept l (job-of (now (h .entry)))) (packets (now (ws .entry)))) ⌝ }
 {
     let n = words::count(ws);
     let mut i = 0;
@@ -213,7 +259,7 @@ fn sift(crash: bool, ws: &mut [u64], h: &[u64], p: u8)
     while i < n {
         let w = ws[i + 1];
         i += 1;
-        if stays(crash, h, p, w) {
+        if is_kept(l, h, w) {
             ws[m + 1] = w;
             m += 1;
         }
@@ -228,7 +274,7 @@ pub fn after_crash(ws: &mut [u64], h: &[u64], p: u8)
     requires { ⌜ HEAD ≤ length (now h) ⌝ }
     ensures { λ _. ⌜ Becomes packets (now (ws .entry)) (now (ws .exit)) (keep (survives (job-of (now (h .entry))) p) (packets (now (ws .entry)))) ⌝ }
 {
-    sift(true, ws, h, p);
+    sift(Leaving::Crash(p), ws, h);
 }
 
 // Gone at a restart of machine p: all to p.
@@ -236,5 +282,19 @@ pub fn after_restart(ws: &mut [u64], h: &[u64], p: u8)
     requires { ⌜ HEAD ≤ length (now h) ⌝ }
     ensures { λ _. ⌜ Becomes packets (now (ws .entry)) (now (ws .exit)) (keep (λ x. not (eqb (goes-to (job-of (now (h .entry))) x) p)) (packets (now (ws .entry)))) ⌝ }
 {
-    sift(false, ws, h, p);
+    sift(Leaving::Restart(p), ws, h);
+}
+
+// Takes every packet of a name off.
+pub fn leave_all(ws: &mut [u64], kind: u8, sender: u8, receiver: u8, sn: u16)
+    ensures { λ _. ⌜ Becomes packets (now (ws .entry)) (now (ws .exit)) (keep (λ x. not (is-named kind sender receiver sn x)) (packets (now (ws .entry)))) ⌝ }
+{
+    let h = [0; HEAD];
+    let l = Leaving::Named {
+        kind,
+        sender,
+        receiver,
+        sn,
+    };
+    sift(l, ws, &h);
 }

@@ -2,36 +2,36 @@
 use Rattle.lists.specs.Basics.{_-_, refl, sym, _∙_, arith, needs}
 use Rattle.words.specs.{Becomes.becomes-as, Sift.{Sifting, sift-start, sift-keep, sift-skip, sift-some, sift-all, map-same}}
 use Rattle.head.specs.Head.{job-of}
-use Rattle.packets.specs.{Words.{unpacked, packets}, Stays.stays}
+use Rattle.packets.specs.{Words.{unpacked, packets}, Stays.is-kept}
 use Rattle.packets.proofs.sift.Statement.{statement}
 use Rattle.packets.proofs.sift.Tie as tie
 
 abbrev Inv-loop : tie.InvT-loop
-Inv-loop crash ws₀ h p n i₀ m₀ ws i m = Sifting unpacked (stays crash (job-of h) p) (λ x. x) ws₀ n ws i m
+Inv-loop l ws₀ h n i₀ m₀ ws i m = Sifting unpacked (is-kept l (job-of h)) (λ x. x) ws₀ n ws i m
 
 abbrev μ-loop : tie.MeasureT-loop
-μ-loop crash ws₀ h p n i₀ m₀ ws i m = n - i
+μ-loop l ws₀ h n i₀ m₀ ws i m = n - i
 
 loop-holds : tie.Need-loop-holds Inv-loop μ-loop
-loop-holds c = sift-start unpacked (stays _ _ _) (λ x. x) _ _ (c .count .ensures .0)
+loop-holds c = sift-start unpacked (is-kept _ _) (λ x. x) _ _ (c .count .ensures .0)
 
 loop-again : tie.Need-loop-again Inv-loop μ-loop
 loop-again c =
     let t = c .before in
-    sift-keep unpacked (stays _ _ _) (λ x. x) (t .before .before .before .loop .inv) _ (omega arith) (sym (t .stays .ensures) ∙ c .if1 .taken) refl
+    sift-keep unpacked (is-kept _ _) (λ x. x) (t .before .before .before .loop .inv) _ (omega arith) (sym (t .is-kept .ensures) ∙ c .if1 .taken) refl
 
 loop-again-2 : tie.Need-loop-again-2 Inv-loop μ-loop
 loop-again-2 c =
     let t = c .before in
-    sift-skip unpacked (stays _ _ _) (λ x. x) (t .before .before .before .loop .inv) (omega arith) (sym (t .stays .ensures) ∙ c .if1 .left)
+    sift-skip unpacked (is-kept _ _) (λ x. x) (t .before .before .before .loop .inv) (omega arith) (sym (t .is-kept .ensures) ∙ c .if1 .left)
 
 returns : tie.Need-returns Inv-loop μ-loop
 unfolding packets
-returns c = let l = c .before .before .loop in becomes-as packets (sift-some unpacked (stays _ _ _) (λ x. x) (l .inv) (omega arith) (omega arith)) (map-same _)
+returns c = let l = c .before .before .loop in becomes-as packets (sift-some unpacked (is-kept _ _) (λ x. x) (l .inv) (omega arith) (omega arith)) (map-same _)
 
 returns-2 : tie.Need-returns-2 Inv-loop μ-loop
 unfolding packets
-returns-2 c = let l = c .before .before .loop in becomes-as packets (sift-all unpacked (stays _ _ _) (λ x. x) (l .inv) (omega arith) (omega arith)) (map-same _)
+returns-2 c = let l = c .before .before .loop in becomes-as packets (sift-all unpacked (is-kept _ _) (λ x. x) (l .inv) (omega arith) (omega arith)) (map-same _)
 
 pub sift-spec : {M : Type 1} → statement M
 sift-spec =
