@@ -3,8 +3,8 @@ use Rattle.lists.specs.Basics.{_≡_, refl, sym, _∙_, Bool, true, false, not,
 use Rattle.lists.specs.{Questions.{Question, _asks_, first-no, first-no-yes}, Tests.{and-l, and-r}}
 use Rattle.protocol.specs.{declared.Rule.the-variants.Other, declared.Answer.the-variants.{Accepted, Refused}, Parts.State, Step.Outcome}
 use Rattle.protocol.specs.{Questions.{inject-questions, is-chare, put-to-all}, Sending.{send, send-all}}
-use Rattle.store.specs.{View.{view, tried, Framed}, Framing.{refuses as refused, accepts as accepted}}
-use Rattle.sends.specs.{Made.{Made, sends-made, sends-refused}, Sends.{sends-questions, tried-sends}, Verdict.{stopped, passed}, Reading.chare-in}
+use Rattle.store.specs.{View.{view, tried, Framed}, Framing.{refuses as refused, accepts as accepted, chare-in}}
+use Rattle.sends.specs.{Made.{Made, sends-made, sends-refused}, Sends.{sends-questions, tried-sends}, Verdict.{stopped, passed}}
 
 -- 2 to 4
 unfoldable pub desk-questions : State → ℕ → ℕ → List Question

@@ -1,9 +1,8 @@
 -- What is read of a store: its head and the places of its memories, in the view's words, and how much its rows can hold.
-use Rattle.lists.specs.Basics.{_≡_, refl, _∙_, Bool, true, List, ℕ, _+_, _-_, _<_, _≤_, arith, leb-true, leb, length}
-use Rattle.lists.specs.Tests.{and-r}
-use Rattle.protocol.specs.{Frames.between, Sending.is-local, Packets.seen}
+use Rattle.lists.specs.Basics.{_≡_, refl, _∙_, Bool, List, ℕ, _<_, _≤_, arith, length}
+use Rattle.protocol.specs.{Sending.is-local, Packets.seen}
 use Rattle.words.specs.Part.{part, part-length}
-use Rattle.head.specs.{Head.job-of, HeadLaws.chares-top}
+use Rattle.head.specs.Head.{job-of}
 use Rattle.packets.specs.{Words.packets, Fits.packets-fit}
 use Rattle.memory.specs.{Places.{TABLE, LOG, ROW, MEMORY}, View.memory-view}
 use Rattle.store.specs.{Places.{WIRE, PACKETS, STORE, live-from}, View.view, ViewLaws.{wire-at, live-at}}
@@ -17,21 +16,12 @@ pub job-at : (xs : List ℕ) → view xs .job ≡ job-of xs
 unfolding view
 job-at xs = refl
 
--- a chare of the job has a memory
-pub chare-in : (xs : List ℕ) (c : ℕ) → between 1 (view xs .job .chares) c ≡ true → c < 13
-unfolding between view
-chare-in xs c e = omega (arith, leb-true c (job-of xs .chares) (and-r (leb 1 c) (leb c (job-of xs .chares)) e), chares-top xs)
-
 -- the plan of a send, from the receiver's memory; n is the last SN
 pub planned : (xs : List ℕ) (a b : ℕ) → b < 13 → (near : Bool) → near ≡ is-local (job-of xs) a b → (last n : ℕ) → last ≡ n → (same : Bool) (k : Ticket) (p : Plan)
     → (let y = memory-view (part (live-from b) MEMORY xs) in p ≡ plan-for near (y .table) (y .highest-at-restart) (seen y a) a last (base-after same k (y .height)) (extra-after same k))
     → p ≡ plan-with (view xs) a b n same k
 unfolding plan-with
 planned xs a b b-in near near-is last n last-is same k p e = e ∙ rw (near-is, ← job-at xs, last-is, live-at xs b b-in)
-
--- a memory lent has the memory's length
-pub span : (c : ℕ) → (live-from c + MEMORY) - live-from c ≡ MEMORY
-span c = omega arith
 
 module _ (ws : List ℕ) (size : length ws ≡ MEMORY) where
   pub table-top : length (tickets.entries (part TABLE ROW ws)) ≤ 16

@@ -7,8 +7,8 @@ use Rattle.words.specs.Part.{part}
 use Rattle.head.specs.Head.{job-of, lost-of, status-of, runs, chare-asked}
 use Rattle.tickets.specs.Fits.{InRange, found-fits}
 use Rattle.memory.specs.{Places.{TABLE, ROW, MEMORY}, View.{memory-view, table-part}}
-use Rattle.store.specs.{Places.live-from, View.{view, tried, Framed}, ViewLaws.live-at, Framing.refuses as refused}
-use Rattle.sends.specs.{Reading.chare-in, Verdict.{stopped, passed}, Works.{worked-state, chare-questions, tried-work}}
+use Rattle.store.specs.{Places.live-from, View.{view, tried, Framed}, ViewLaws.live-at, Framing.{refuses as refused, chare-in}}
+use Rattle.sends.specs.{Verdict.{stopped, passed}, Works.{worked-state, chare-questions, tried-work}}
 
 -- ---- the next entry of a memory
 module _ (ws : List ℕ) where

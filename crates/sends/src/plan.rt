@@ -14,6 +14,7 @@ use memory::LOG;
 use memory::MEMORY;
 use memory::TABLE;
 use store::LIVE;
+use store::last_sn;
 use tickets::FoundEntry;
 
 // What a send needs to know before it is made: its ticket, whether the window admits it and whether the table has room for it.
@@ -116,17 +117,6 @@ fn plan_on(near: bool, y: &[u64], a: u8, last: u16, same: bool, k: Ticket) -> Pl
             new_plan(y, a, last + 1, base_after(same, k, h), extra_after(same, k))
         }
     }
-}
-
-// The last SN of a to b.
-pub fn last_sn(s: &[u64], a: u8, b: u8) -> u16
-    requires { ⌜ length (now s) ≡ STORE ⌝ }
-    requires { ⌜ a < 13 ⌝ }
-    ensures { λ r. ⌜ r ≡ view (now (s .entry)) .live a .sn b ⌝ }
-{
-    let x = LIVE + (a as usize) * MEMORY;
-    let e = x + MEMORY;
-    memory::sn(&s[x..e], b)
 }
 
 // The plan of a send from a to b.

@@ -1,9 +1,9 @@
 -- A frame's questions: the number of the first that is answered "no" decides.
-use Rattle.lists.specs.Basics.{_≡_, refl, sym, _∙_, Bool, true, _≢_, List, [], _∷_, ℕ, _≤_, arith}
+use Rattle.lists.specs.Basics.{_≡_, refl, sym, _∙_, Bool, true, _≢_, List, [], _∷_, ℕ, _<_, _≤_, arith}
 use Rattle.lists.specs.Questions.{Question, _asks_, numbered, put-all, yes-put, first-no, first-no-yes, put-first}
 use Rattle.protocol.specs.{declared.Rule.Rule, declared.Rule.the-variants.Other, declared.Answer.Answer, declared.Answer.the-variants.{Accepted, Refused}, Frames.between, Parts.State, Step.{Outcome, judged}}
 use Rattle.frames.specs.Range.{between-true}
-use Rattle.head.specs.{Head.job-of, HeadLaws.machines-top}
+use Rattle.head.specs.{Head.job-of, HeadLaws.{machines-top, chares-top}}
 use Rattle.store.specs.View.{view, outcome, tried, Framed}
 
 -- ---- a frame's end: the store is as it was, or the frame is accepted
@@ -27,6 +27,11 @@ module _ (xs : List ℕ) (l : List Question) (n : ℕ) (e : n ≡ first-no l) wh
   pub accepted : numbered l ≡ true → (ys : List ℕ) (s : State) → n ≡ 0 → view ys ≡ s → Framed xs ys (Accepted Other) (tried (view xs) l s)
   unfolding outcome tried
   accepted k ys s h q = answered k ys (Accepted Other) _ (λ m z. absurd (let y : _≡_ {A = ℕ} 0 1 = cc in omega arith)) h (rw q)
+
+-- a chare of the job has a memory
+pub chare-in : (xs : List ℕ) (c : ℕ) → between 1 (view xs .job .chares) c ≡ true → c < 13
+unfolding view
+chare-in xs c e = let h = between-true 1 (job-of xs .chares) c e in omega (arith, chares-top xs)
 
 -- a machine that passed is one of six
 pub machine-in : (xs : List ℕ) (p n : ℕ) (a b c d : Bool) → n ≡ first-no (2 asks a ∷ 3 asks b ∷ 4 asks c ∷ 5 asks d ∷ []) → b ≡ between 1 (job-of xs .machines) p → n ≡ 0 → (1 ≤ p) × (p ≤ 6)

@@ -1,5 +1,5 @@
 -- A part of the store put anew changes that part of the view, and no other. All arithmetic on places is here.
-use Rattle.lists.specs.Basics.{_≡_, refl, sym, ap, _∙_, Bool, List, inl, ℕ, _+_, _<_, arith, eqb, length, set}
+use Rattle.lists.specs.Basics.{_≡_, refl, sym, ap, _∙_, Bool, List, inl, ℕ, _+_, _-_, _<_, arith, eqb, length, set}
 use Rattle.lists.specs.Map.{upd}
 use Rattle.protocol.specs.{declared.Status.Status, Parts.{Job, State, Memory}, Setters.{with-lost, with-status, with-memory, with-copies, with-notes, with-wire}}
 use Rattle.words.specs.{Part.{part, put, put-length, part-length, part-put, part-behind}, PartSet.part-set-before, Copy.Apart}
@@ -18,6 +18,10 @@ with-copy s c m = with-copies s (s .held) (upd c m (s .copy)) (s .notes)
 -- the head becomes that of h
 abbrev pub with-head : State → List ℕ → State
 with-head s h = record { job = job-of h; lost = lost-of h; status = status-of h; target = target-of h; live = s .live; held = held-of h; copy = s .copy; notes = s .notes; wire = s .wire }
+
+-- a memory lent has the memory's length
+pub span : (c : ℕ) → (live-from c + MEMORY) - live-from c ≡ MEMORY
+span c = omega arith
 
 pub apart : (c : ℕ) → c < 13 → Apart (live-from c) (copy-from c) MEMORY
 apart c h = inl (omega arith)

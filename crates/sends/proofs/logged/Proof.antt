@@ -1,6 +1,5 @@
 use Rattle.lists.specs.Basics.{needs}
-use Rattle.sends.specs.Reading.{span}
-use Rattle.store.specs.ViewLaws.{live-at}
+use Rattle.store.specs.ViewLaws.{span, live-at}
 use Rattle.sends.proofs.logged.Statement.{statement}
 use Rattle.sends.proofs.logged.Tie as tie
 

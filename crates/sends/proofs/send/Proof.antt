@@ -1,5 +1,6 @@
 use Rattle.lists.specs.Basics.{arith, needs}
-use Rattle.sends.specs.{Reading.span, Stored.sent-at}
+use Rattle.store.specs.ViewLaws.{span}
+use Rattle.sends.specs.Stored.{sent-at}
 use Rattle.sends.proofs.send.Statement.{statement}
 use Rattle.sends.proofs.send.Tie as tie
 

@@ -1,5 +1,6 @@
 use Rattle.lists.specs.Basics.{arith, sym, ap, _∙_, needs}
-use Rattle.sends.specs.{Reading.span, WorkFrame.{frame-refused, index, next-fits, nothing-next, next-worked}}
+use Rattle.store.specs.ViewLaws.{span}
+use Rattle.sends.specs.WorkFrame.{frame-refused, index, next-fits, nothing-next, next-worked}
 use Rattle.tickets.specs.Table.{found-entry}
 use Rattle.sends.proofs.work.Statement.{statement}
 use Rattle.sends.proofs.work.Tie as tie

@@ -1,5 +1,6 @@
 use Rattle.lists.specs.Basics.{arith, refl, needs}
-use Rattle.sends.specs.{Reading.span, WorkAt.{not-worked, all-sent, undone}}
+use Rattle.store.specs.ViewLaws.{span}
+use Rattle.sends.specs.WorkAt.{not-worked, all-sent, undone}
 use Rattle.sends.proofs.work_at.Statement.{statement}
 use Rattle.sends.proofs.work_at.Tie as tie
 

@@ -1,5 +1,6 @@
 use Rattle.lists.specs.Basics.{_∙_, needs}
-use Rattle.sends.specs.{Reading.{span, planned}, Plan.plan-after}
+use Rattle.store.specs.ViewLaws.{span}
+use Rattle.sends.specs.{Reading.planned, Plan.plan-after}
 use Rattle.sends.proofs.plan.plan_after.Statement.{statement}
 use Rattle.sends.proofs.plan.plan_after.Tie as tie
 

@@ -1,5 +1,6 @@
 use Rattle.lists.specs.Basics.{needs}
-use Rattle.sends.specs.{Reading.{span, planned}, Plan.plan-of}
+use Rattle.store.specs.ViewLaws.{span}
+use Rattle.sends.specs.{Reading.planned, Plan.plan-of}
 use Rattle.sends.proofs.plan.plan_of.Statement.{statement}
 use Rattle.sends.proofs.plan.plan_of.Tie as tie
 

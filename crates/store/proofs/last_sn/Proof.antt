@@ -1,8 +1,8 @@
+-- `store::last_sn` meets its contract: the sender's memory has it.
 use Rattle.lists.specs.Basics.{needs}
-use Rattle.sends.specs.Reading.{span}
-use Rattle.store.specs.ViewLaws.{live-at}
-use Rattle.sends.proofs.plan.last_sn.Statement.{statement}
-use Rattle.sends.proofs.plan.last_sn.Tie as tie
+use Rattle.store.specs.ViewLaws.{span, live-at}
+use Rattle.store.proofs.last_sn.Statement.{statement}
+use Rattle.store.proofs.last_sn.Tie as tie
 
 returns : tie.Need-returns
 returns c =
