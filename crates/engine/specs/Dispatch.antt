@@ -2,12 +2,12 @@
 use Rattle.lists.specs.Basics.{_≡_, refl, sym, ap, _∙_, Bool, true, false, Option, some, none, ℕ}
 use Rattle.lists.specs.Questions.{put-all}
 use Rattle.protocol.specs.{declared.Rule.the-variants.Other, declared.Answer.the-variants.Refused, Parts.State, Frames.{Line, frame}}
-use Rattle.protocol.specs.{Job.begin, Sending.send, Working.next-entry, Checkpoint.checkpoint, Crash.has-cover, Restart.restart}
+use Rattle.protocol.specs.{Job.begin, Sending.send, Working.next-entry, Checkpoint.checkpoint, Crash.has-cover, Restart.restart, Withdraw.withdraw}
 use Rattle.protocol.specs.Questions.{questions, job-questions, inject-questions, deliver-questions, on-wire, work-questions}
-use Rattle.protocol.specs.Questions.{checkpoint-questions, crash-questions, restart-questions, show-questions}
+use Rattle.protocol.specs.Questions.{checkpoint-questions, crash-questions, restart-questions, show-questions, withdraw-questions}
 use Rattle.protocol.specs.{Step.{Outcome, accept, crash-outcome, deliver-outcome, work-outcome, outcome, judged, play, step-frame, step}}
 use Rattle.frames.specs.{Decode.decoded, Read.{read-as, meaning}, ReadLaws.frame-meaning, declared.Frame.Frame}
-use Rattle.frames.specs.{declared.Frame.the-variants.{Garbled, Job, Inject, Deliver, Work, Checkpoint, Crash, Restart, Show}}
+use Rattle.frames.specs.{declared.Frame.the-variants.{Garbled, Job, Inject, Deliver, Work, Checkpoint, Crash, Restart, Show, Withdraw}}
 use Rattle.store.specs.View.{done, tried}
 use Rattle.settle.specs.Shown.{shown}
 use Rattle.deliver.specs.Frame.{delivered}
@@ -26,6 +26,7 @@ acted s l (Checkpoint p) = tried s (checkpoint-questions s p) (checkpoint s p)
 acted s l (Crash p) = judged s (put-all (crash-questions s p) (crash-tried s p (has-cover s p)))
 acted s l (Restart p) = tried s (restart-questions s p) (restart s p)
 acted s l (Show c) = judged s (put-all (show-questions s c) (shown s c))
+acted s l (Withdraw c) = tried s (withdraw-questions s c) (withdraw s c)
 
 -- whether or not there is something to act on
 either-settles : {X : Type 0} (x t : Option X → Outcome) → x none ≡ settle-after (t none) → ((a : X) → x (some a) ≡ settle-after (t (some a))) → (o : Option X) → x o ≡ settle-after (t o)
@@ -50,6 +51,7 @@ module _ (s : State) where
   acted-settles l (Crash p) = judged-settles s _ _ _ (crash-settles p (has-cover s p))
   acted-settles l (Restart p) = judged-settles s _ _ _ refl
   acted-settles l (Show c) = judged-settles s _ _ _ refl
+  acted-settles l (Withdraw c) = judged-settles s _ _ _ refl
 
   pub steps : (l : Line) (f : Frame) → f ≡ read-as (frame l) → step s l ≡ settle-after (acted s l f)
   unfolding step

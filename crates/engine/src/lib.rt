@@ -30,6 +30,7 @@ fn act(s: &mut [u64], f: Frame, line: &[u8]) -> Answer
         Frame::Crash(machine) => crash::crash(s, machine),
         Frame::Restart(machine) => restart::restart(s, machine),
         Frame::Show(chare) => settle::show(s, chare),
+        Frame::Withdraw(chare) => withdraw::withdraw(s, chare),
     }
 }
 

@@ -41,11 +41,17 @@ returns-9 : tie.Need-returns-9
 unfolding acted
 returns-9 c = rw (c .before .before .before .f7 .given .1) (record { gives = c .show .ensures; stays = λ n e. refl })
 
+returns-10 : tie.Need-returns-10
+unfolding acted
+returns-10 c = rw (c .before .before .before .before .before .f8 .given .1) (c .before .before .withdraw .ensures)
+
 pub act-spec : {M : Type 1} → statement M
 act-spec =
     tie.close
     (tie.spec
     (λ c. search needs)
+    (λ c. search needs)
+    (λ c κs. search needs)
     (λ c. search needs)
     (λ c κs. search needs)
     (λ c. search needs)
@@ -78,4 +84,6 @@ act-spec =
     (λ c. search needs)
     returns-8
     (λ c. search needs)
-    returns-9)
+    returns-9
+    (λ c. search needs)
+    returns-10)
