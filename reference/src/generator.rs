@@ -224,6 +224,9 @@ impl Generator {
                 return put_digits(out, &bytes(&frame));
             }
         }
+        if let Some(frame) = self.stale_ask(state) {
+            return put_digits(out, &bytes(&frame));
+        }
         let act = self.correction().unwrap_or_else(|| self.act(state));
         let frame = match act {
             Act::Junk => {

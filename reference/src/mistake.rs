@@ -2,10 +2,12 @@
 
 use crate::frame::Frame;
 use crate::generator::Generator;
-use crate::job::Job;
+use crate::job::{ix, Job};
+use crate::limits::DESK;
 use crate::mood::Act;
 use crate::outlook::{asks_again, withdrawable};
 use crate::state::State;
+use crate::wire::{Kind, Name};
 
 /// What is to be put right.
 #[derive(Clone, Copy, Debug, PartialEq, Eq)]
@@ -35,6 +37,16 @@ impl Generator {
             Mistake::Made(_) => Some(Act::Withdraw),
             Mistake::TakenBack(_) => self.rng.one_in(6).then_some(Act::Inject),
         }
+    }
+
+    /// Now and then the ASK that a withdrawal took off the wire is asked for all the same.
+    pub(crate) fn stale_ask(&mut self, state: &State) -> Option<Frame> {
+        let Some(Mistake::TakenBack(chare)) = self.mistake else {
+            return None;
+        };
+        let sn = state.world.desk.sent[ix(chare)] + 1;
+        let ask = Name::new(Kind::Ask, DESK, chare, sn);
+        self.rng.one_in(12).then(|| ask.into())
     }
 
     /// Mostly a message that can be withdrawn, or one that seems so.

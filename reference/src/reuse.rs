@@ -22,7 +22,7 @@ impl Reuse {
     /// The desk gives this SN; says whether it had another body before.
     pub fn injected(&mut self, chare: u8, sn: u16, body: Body) -> bool {
         let before = self.numbers.get(&(chare, sn));
-        let again = before.is_some_and(|given| given.body != body);
+        let again = before.is_some_and(|given| given.again || given.body != body);
         self.numbers.insert((chare, sn), Given { body, again });
         again
     }

@@ -1,6 +1,8 @@
 //! Point 4: frame 17 takes the desk's last message to a chare back.
 
 use reference::answer::{Answer, Question, Rule};
+use reference::census::{Census, Event};
+use reference::frame::parse;
 use reference::generator::{list, whole, Generator};
 use reference::limits::{LOG_SIZE, MAX_NUMBER, WIRE_SIZE};
 use reference::message::Lookup;
@@ -380,4 +382,88 @@ fn space_is_given_back() {
     assert_eq!(state.world.desk.sent[0], MAX_NUMBER - 1);
     accept(&mut state, &["1001000400"]);
     assert_eq!(state.world.wire.names(), [ask(0, 1, MAX_NUMBER)]);
+}
+
+/// What a census counts of a list.
+fn counted(parts: &[&[&str]], event: Event) -> u64 {
+    let mut state = State::new();
+    let mut census = Census::new();
+    for line in [&[JOB][..], &parts.concat()].concat() {
+        let frame = parse(line.as_bytes()).unwrap();
+        let before = Census::before(&state, &frame);
+        let answer = state.step(&frame);
+        census.after(&before, &frame, answer, &state);
+    }
+    census.count(event)
+}
+
+/// Each way in which frame 17 can go is counted as what it is, once.
+#[test]
+fn ways_are_counted() {
+    const ASKED: &[&str] = &["1001000300", "110100010001"];
+    const TICKETED: &[&str] = &["110200010001"];
+    const WORKED: &[&str] = &["110300010001", "1201"];
+    // One more work of chare 1, from chare 3.
+    const ANOTHER: [&[&str]; 2] = [
+        &["1003000901", "110100030001", "110200030001", "110300030001"],
+        &[
+            "1203",
+            "110103010001",
+            "110203010001",
+            "110303010001",
+            "1201",
+        ],
+    ];
+    let ways: [(&[&[&str]], Event); 10] = [
+        (&[], Event::WithdrawNothing),
+        (&[ASKED], Event::WithdrawAsked),
+        (&[ASKED, TICKETED], Event::WithdrawTicketed),
+        (&[ASKED, TICKETED, WORKED, &["1301"]], Event::WithdrawWorked),
+        (
+            &[ASKED, TICKETED, WORKED, ANOTHER[0], ANOTHER[1], &["1301"]],
+            Event::WithdrawDropped,
+        ),
+        (
+            &[ASKED, &["1301", "1401", "1501"]],
+            Event::WithdrawTicketAlone,
+        ),
+        (&[&["1001000300", "1401"]], Event::WithdrawDown),
+        (&[&["1001000300"]], Event::Withdrawn),
+        (&[&["1001000300", "1402"]], Event::WithdrawnWhileDown),
+        (
+            &[ASKED, TICKETED, &["1001000400", "1401", "1501"]],
+            Event::WithdrawnWhileCatchingUp,
+        ),
+    ];
+    for (parts, event) in ways {
+        let with = [parts, &[&["1701"][..]]].concat();
+        for (_, other) in ways {
+            // Whatever stands around, it was withdrawn.
+            let same = other == event
+                || other == Event::Withdrawn && format!("{event:?}").starts_with("Withdrawn");
+            let count = counted(&with, other);
+            assert_eq!(count, u64::from(same), "{event:?} as {other:?}");
+        }
+        assert_eq!(counted(parts, event), 0, "{event:?} without the frame");
+    }
+}
+
+/// An SN counts as used again if the message is another one, and as worked with its first work.
+#[test]
+fn used_numbers_are_counted() {
+    let counts = |parts: &[&[&str]]| {
+        let events = [Event::NumberReused, Event::ReusedWorked];
+        events.map(|event| counted(parts, event))
+    };
+    const BACK: &[&str] = &["1001000300", "1701"];
+    const WORK: &[&str] = &["110100010001", "110200010001", "110300010001", "1201"];
+    const AGAIN: &[&str] = &["1401", "1501", "110300010001", "1201"];
+    assert_eq!(counts(&[BACK, &["1001000300"], WORK]), [0, 0]);
+    assert_eq!(counts(&[BACK, &["1002000400"]]), [0, 0]);
+    for other in ["1001000400", "1001000301"] {
+        assert_eq!(counts(&[BACK, &[other]]), [1, 0]);
+        assert_eq!(counts(&[BACK, &[other], WORK]), [1, 1]);
+        assert_eq!(counts(&[BACK, &[other], WORK, AGAIN]), [1, 1]);
+        assert_eq!(counts(&[BACK, &[other, "1701", other], WORK]), [2, 1]);
+    }
 }
