@@ -26,9 +26,9 @@ speed() { # LIST
 }
 echo "one random list"
 # of the seeds from 1 on, the first whose list is not cut short by a lost run
-"$lists" 203 1000000 >"$work/list"; speed "$work/list"
+"$lists" 924 1000000 >"$work/list"; speed "$work/list"
 echo "a long sitting of a wide job"
-# the first seed; with these options no list is cut short, but it takes half a minute to find
+# the first seed; with these options no list is cut short
 "$lists" --machines 6 --chares 12 --frames 1000000 --clean 1 >"$work/wide"; speed "$work/wide"
 echo "many short sittings"
 # in one process, so that starting a program does not count
