@@ -15,10 +15,18 @@ pub enum Event {
     Hole,
     /// A crash without cover.
     Lost,
+    /// An injection is taken back.
+    Withdraw,
 }
 
 impl Event {
-    pub const ALL: [Event; 4] = [Event::Crash, Event::Restart, Event::Hole, Event::Lost];
+    pub const ALL: [Event; 5] = [
+        Event::Crash,
+        Event::Restart,
+        Event::Hole,
+        Event::Lost,
+        Event::Withdraw,
+    ];
 
     pub fn name(self) -> &'static str {
         match self {
@@ -26,6 +34,7 @@ impl Event {
             Event::Restart => "restart",
             Event::Hole => "hole",
             Event::Lost => "ff",
+            Event::Withdraw => "withdraw",
         }
     }
 }
@@ -51,7 +60,7 @@ pub fn wished(wish: &Wish, seed: u64) -> Option<Vec<u8>> {
         machines: wish.machines,
         chares: wish.chares,
         clean: wish.clean,
-        crashing: !wish.with.is_empty(),
+        crashing: wish.with.iter().any(|&event| event != Event::Withdraw),
         may_be_lost: Some(wish.with.contains(&Event::Lost)),
     };
     let lists = (0..TRIES).map(|tried| {
@@ -104,6 +113,7 @@ fn events(after: &State, frame: Option<Frame>, answer: Answer) -> Vec<Event> {
                 false => vec![Event::Restart],
             }
         }
+        (Some(Frame::Withdraw { .. }), Answer::Accepted(_)) => vec![Event::Withdraw],
         _ => Vec::new(),
     }
 }

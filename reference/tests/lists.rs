@@ -30,6 +30,7 @@ struct Seen {
     restarts: usize,
     holes: usize,
     lost: usize,
+    withdrawals: usize,
     garbled: usize,
 }
 
@@ -43,6 +44,7 @@ fn seen(list: &[u8]) -> Seen {
         seen.frames += 1;
         match parse(line) {
             Some(Frame::Crash { .. }) => seen.crashes += usize::from(accepted),
+            Some(Frame::Withdraw { .. }) => seen.withdrawals += usize::from(accepted),
             Some(Frame::Restart { .. }) if accepted => {
                 seen.restarts += 1;
                 seen.holes += state
@@ -84,7 +86,8 @@ fn what_is_asked_for_is_there() {
                 "crash,restart",
                 "hole",
                 "ff",
-                "crash,restart,hole,ff",
+                "withdraw",
+                "crash,restart,hole,ff,withdraw",
             ] {
                 let mut args = args.to_vec();
                 if !with.is_empty() {
@@ -108,6 +111,7 @@ fn what_is_asked_for_is_there() {
                 assert!(!has("crash") || seen.crashes > 0, "{args:?}");
                 assert!(!has("restart") || seen.restarts > 0, "{args:?}");
                 assert!(!has("hole") || seen.holes > 0, "{args:?}");
+                assert!(!has("withdraw") || seen.withdrawals > 0, "{args:?}");
             }
         }
     }
@@ -140,7 +144,7 @@ fn bad_calls() {
         ),
         (
             &["--with", "crash,fire", "1"],
-            "--with has no \"fire\": crash, restart, hole or ff",
+            "--with has no \"fire\": crash, restart, hole, ff or withdraw",
         ),
         (&["--dirty", "1"], "there is no option \"--dirty\""),
         (&["1", "--frames"], "--frames needs a value"),

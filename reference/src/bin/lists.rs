@@ -14,8 +14,10 @@ lists [OPTIONS] SEED            a list for an exam, the same for the same seed
   --machines M                  2 to 6 machines
   --chares C                    1 to 12 chares
   --frames N                    so many frames, 40 if it is not said; fewer if the run is lost
-  --with crash,restart,hole,ff  what has to happen: a crash with cover, a restart, a restart that
-                                leaves a hole, a crash without cover (else the run is not lost)
+  --with crash,restart,hole,ff,withdraw
+                                what has to happen: a crash with cover, a restart, a restart that
+                                leaves a hole, a crash without cover (else the run is not lost),
+                                a withdrawal
   --clean                       no garbled frame and none out of range: no 01, 02 or 03
 lists SEED FRAMES               one random list, of any kind
 lists FOLDER SEED COUNT FRAMES  COUNT of them, of seeds SEED and up, as FOLDER/SEED.in
@@ -58,7 +60,7 @@ fn events(word: &str) -> Result<Vec<Event>, Failure> {
     let event = |name: &str| match Event::ALL.into_iter().find(|event| event.name() == name) {
         Some(event) => Ok(event),
         None => usage(format!(
-            "--with has no \"{name}\": crash, restart, hole or ff"
+            "--with has no \"{name}\": crash, restart, hole, ff or withdraw"
         )),
     };
     word.split(',').map(event).collect()
