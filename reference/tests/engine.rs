@@ -22,7 +22,7 @@ fn same(name: &str, input: &[u8]) {
 #[test]
 fn vectors() {
     let folder = Path::new(env!("CARGO_MANIFEST_DIR")).join("tests/vectors");
-    for number in 1..=75 {
+    for number in 1..=76 {
         let input = fs::read(folder.join(format!("{number:02}.in"))).unwrap();
         same(&format!("list {number:02}"), &input);
     }

@@ -4,7 +4,7 @@ use reference::reader::answer_all;
 use std::fs;
 use std::path::Path;
 
-const LISTS: usize = 75;
+const LISTS: usize = 76;
 
 #[test]
 fn every_vector() {
