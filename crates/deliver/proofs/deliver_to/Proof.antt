@@ -1,21 +1,16 @@
 -- `deliver_to`: the memory of the chare, then the wire.
-use Rattle.lists.specs.Basics.{_≡_, ℕ, _+_, _-_, arith, needs}
-use Rattle.memory.specs.Places.{MEMORY}
-use Rattle.store.specs.Places.{live-from}
+use Rattle.lists.specs.Basics.{arith, needs}
+use Rattle.store.specs.ViewLaws.{span}
 use Rattle.deliver.specs.InPlace.{chare-refused, chare-done}
 use Rattle.deliver.proofs.deliver_to.Statement.{statement}
 use Rattle.deliver.proofs.deliver_to.Tie as tie
-
--- a memory as long as the difference of its ends
-memory-length : (c : ℕ) → (live-from c + MEMORY) - live-from c ≡ MEMORY
-memory-length c = omega arith
 
 returns : tie.Need-returns
 returns c =
     let g = c .before .before .before .before in
     let st = g .before .before .before in
     let a = st .args in
-    let e = memory-length (a .c) in
+    let e = span (a .c) in
     rw e (chare-refused (a .s .now) (st .pre .0) (a .at) (a .p) (st .pre .1 .1) (a .c) (st .pre .1 .0)
     (g .arrive .last .0) (omega arith) _ (rw e at (g .arrive .ensures)) (c .if1 .taken))
 
@@ -26,7 +21,7 @@ returns-2 c =
     let g = i .before .before .before .before in
     let st = g .before .before .before in
     let a = st .args in
-    let e = memory-length (a .c) in
+    let e = span (a .c) in
     rw e (chare-done (a .s .now) (st .pre .0) (a .at) (a .p) (st .pre .1 .1) (a .c) (st .pre .1 .0)
     (g .arrive .last .0) (omega arith) _ (rw e at (g .arrive .ensures)) (i .if1 .left) (w .answer .last .0) (omega arith) (rw e at (w .answer .ensures .on .items)))
 

@@ -1,5 +1,5 @@
 -- `forget`: the SN before, then the log without the message.
-use Rattle.lists.specs.Basics.{length, set, _+_, _-_, _≤_, _∙_, arith, length-set, needs}
+use Rattle.lists.specs.Basics.{length, set, _+_, _≤_, _∙_, arith, length-set, needs}
 use Rattle.words.specs.Part.{put-length}
 use Rattle.memory.specs.Places.{SN, LOG, ROW}
 use Rattle.withdraw.specs.Withdrawn.{forgotten-put}
