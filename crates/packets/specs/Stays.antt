@@ -1,5 +1,5 @@
 -- The packets that stay on the wire at a crash of machine p, and at its restart; those that a sift keeps.
-use Rattle.lists.specs.Basics.{Bool, cond, not, _&&_, _||_, _≡_, ℕ, eqb}
+use Rattle.lists.specs.Basics.{Bool, true, false, cond, not, _&&_, _||_, _≡_, ℕ, eqb}
 use Rattle.protocol.specs.{declared.Packet.Packet, Crash.survives, Packets.{kind, destination, goes-to, is-named}, Parts.{Job, on}}
 use Rattle.item.specs.{declared.Item.Item, Item.item-of}
 use Rattle.packets.specs.{Words.{as-packet, unpacked}, declared.Leaving.Leaving, declared.Leaving.the-variants.{Crash, Restart, Named}}
@@ -9,8 +9,8 @@ stays crash j p x = cond crash (survives j p x) (not (eqb (goes-to j x) p))
 
 -- a packet that does not leave
 unfoldable pub is-kept : Leaving → Job → Packet → Bool
-is-kept (Crash p) j x = survives j p x
-is-kept (Restart p) j x = not (eqb (goes-to j x) p)
+is-kept (Crash p) j x = stays true j p x
+is-kept (Restart p) j x = stays false j p x
 is-kept (Named k a r n) j x = not (is-named k a r n x)
 
 -- k is the packet's kind, and d the machine that it goes to

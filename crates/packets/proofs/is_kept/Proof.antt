@@ -1,15 +1,15 @@
 -- `packets::is_kept` meets its contract: each way to leave has its test.
 use Rattle.lists.specs.Basics.{needs}
-use Rattle.packets.specs.Stays.{stays, is-kept}
+use Rattle.packets.specs.Stays.{is-kept}
 use Rattle.packets.proofs.is_kept.Statement.{statement}
 use Rattle.packets.proofs.is_kept.Tie as tie
 
 returns : tie.Need-returns
-unfolding is-kept stays
+unfolding is-kept
 returns c = rw (c .before .before .l .given .1) (c .stays .ensures)
 
 returns-2 : tie.Need-returns-2
-unfolding is-kept stays
+unfolding is-kept
 returns-2 c = rw (c .before .before .l2 .given .1) (c .stays2 .ensures)
 
 returns-3 : tie.Need-returns-3
