@@ -7,7 +7,7 @@ use Rattle.lists.specs.Lists.{keep, remove1}
 use Rattle.protocol.specs.declared.Packet.{Packet}
 use Rattle.protocol.specs.declared.Lookup.{Lookup}
 use Rattle.protocol.specs.declared.Lookup.the-variants.{Missing, Ticketed, Unticketed}
-use Rattle.protocol.specs.Parts.{State}
+use Rattle.protocol.specs.Parts.{Memory, State}
 use Rattle.protocol.specs.Setters.{with-log, with-sn, with-memory, with-wire}
 use Rattle.protocol.specs.Packets.{for-receiver, lookup, is-named}
 
@@ -29,11 +29,13 @@ logged-without-tn s c n = without-tn (lookup (s .live 0 .log) c n)
 unfoldable pub is-other : ℕ → ℕ → Packet → Bool
 is-other c n x = not (is-named 1 0 c n x)
 
+-- the desk's memory without its message n to c, and that SN free
+abbrev pub desk-without : Memory → ℕ → ℕ → Memory
+desk-without m c n = with-log (with-sn m (upd c (n - 1) (m .sn))) (remove1 (for-receiver c n) (m .log))
+
 -- the desk's message n to c, its last one, is taken back
 unfoldable pub take-back : State → ℕ → ℕ → State
-take-back s c n =
-    let m = s .live 0 in
-    with-wire (with-memory s 0 (with-log (with-sn m (upd c (n - 1) (m .sn))) (remove1 (for-receiver c n) (m .log)))) (keep (is-other c n) (s .wire))
+take-back s c n = with-wire (with-memory s 0 (desk-without (s .live 0) c n)) (keep (is-other c n) (s .wire))
 
 -- frame 17
 unfoldable pub withdraw : State → ℕ → State

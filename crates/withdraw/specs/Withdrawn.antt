@@ -1,29 +1,25 @@
 -- What frame 17 leaves where the store stands: the desk's memory, then the wire.
 use Rattle.lists.specs.Basics.{_≡_, _∙_, not, List, ℕ, _+_, _-_, _<_, arith, length, set, length-set}
-use Rattle.lists.specs.{Map.upd, Lists.{keep, remove1}}
-use Rattle.protocol.specs.{Parts.Memory, Setters.{with-log, with-sn}, Packets.{for-receiver, is-named}, Withdraw.{is-other, take-back}}
+use Rattle.lists.specs.Lists.{keep, remove1}
+use Rattle.protocol.specs.{Packets.{for-receiver, is-named}, Withdraw.{is-other, desk-without, take-back}}
 use Rattle.words.specs.Part.{part, put}
 use Rattle.logs.specs.Log.{entries}
 use Rattle.packets.specs.Words.{packets}
 use Rattle.memory.specs.{Places.{SN, LOG, ROW, MEMORY}, Numbers.sn-set, View.{memory-view, log-changed}}
 use Rattle.store.specs.{Places.{WIRE, PACKETS, STORE, live-from}, View.view, ViewLaws.{wire-at, live-length, live-changed, wire-put}}
 
--- the desk's memory without its message n to c, the SN free again
-abbrev pub forgotten : Memory → ℕ → ℕ → Memory
-forgotten m c n = with-log (with-sn m (upd c (n - 1) (m .sn))) (remove1 (for-receiver c n) (m .log))
-
 -- ---- in the desk's memory: k is the SN before n; ys is the log afterwards
 module _ (ws ys : List ℕ) (size : length ws ≡ MEMORY) (long : length ys ≡ ROW) (c n k : ℕ) (c-in : c < 13) (n-in : n < 65536) (k-is : k ≡ n - 1) where
   abbrev counted : List ℕ
   counted = set ws (SN + c) k
 
-  pub forgotten-put : entries ys ≡ remove1 (for-receiver c n) (entries (part LOG ROW counted)) → memory-view (put LOG ROW counted ys) ≡ forgotten (memory-view ws) c n
+  pub forgotten-put : entries ys ≡ remove1 (for-receiver c n) (entries (part LOG ROW counted)) → memory-view (put LOG ROW counted ys) ≡ desk-without (memory-view ws) c n
   forgotten-put e =
       log-changed counted ys (simp length-set size) long (remove1 (for-receiver c n)) e
       ∙ rw (sn-set ws size k c (omega arith) (omega arith), k-is)
 
 -- ---- in the store: ys is the desk's memory afterwards, zs then the wire
-module _ (xs : List ℕ) (size : length xs ≡ STORE) (c n : ℕ) (ys : List ℕ) (ly : length ys ≡ MEMORY) (forgets : memory-view ys ≡ forgotten (memory-view (part (live-from 0) MEMORY xs)) c n) where
+module _ (xs : List ℕ) (size : length xs ≡ STORE) (c n : ℕ) (ys : List ℕ) (ly : length ys ≡ MEMORY) (forgets : memory-view ys ≡ desk-without (memory-view (part (live-from 0) MEMORY xs)) c n) where
   abbrev x1 : List ℕ
   x1 = put (live-from 0) MEMORY xs ys
 
@@ -32,4 +28,4 @@ module _ (xs : List ℕ) (size : length xs ≡ STORE) (c n : ℕ) (ys : List ℕ
   unfolding take-back is-other
   taken-back zs lz leaves =
       wire-put x1 (live-length xs size 0 (omega arith) ys ly) zs lz
-      ∙ rw (leaves, ← wire-at x1, live-changed xs size 0 (omega arith) ys ly (λ m. forgotten m c n) forgets)
+      ∙ rw (leaves, ← wire-at x1, live-changed xs size 0 (omega arith) ys ly (λ m. desk-without m c n) forgets)

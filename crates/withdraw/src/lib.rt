@@ -6,14 +6,13 @@ ghost use Rattle.lists.specs.Lists.{find};
 ghost use Rattle.lists.specs.Questions.{first-no};
 ghost use Rattle.protocol.specs.Tickets.{entry};
 ghost use Rattle.protocol.specs.Packets.{lookup, is-named};
-ghost use Rattle.protocol.specs.Withdraw.{without-tn, take-back, withdraw};
+ghost use Rattle.protocol.specs.Withdraw.{without-tn, desk-without, take-back, withdraw};
 ghost use Rattle.protocol.specs.Questions.{no-entry, is-there, can-be-taken-back, withdraw-questions};
 ghost use Rattle.packets.specs.Words.{packets};
 ghost use Rattle.memory.specs.Places.{MEMORY};
 ghost use Rattle.memory.specs.View.{memory-view};
 ghost use Rattle.store.specs.Places.{STORE};
 ghost use Rattle.store.specs.View.{view, tried, Framed};
-ghost use Rattle.withdraw.specs.Withdrawn.{forgotten};
 use memory::LOG;
 use memory::MEMORY;
 use memory::SN;
@@ -106,7 +105,7 @@ fn previous(n: u16) -> u16
 fn forget(m: &mut [u64], c: u8, n: u16)
     requires { ⌜ length (now m) ≡ MEMORY ⌝ }
     requires { ⌜ c < 13 ⌝ }
-    ensures { λ _. ⌜ memory-view (now (m .exit)) ≡ forgotten (memory-view (now (m .entry))) c n ⌝ }
+    ensures { λ _. ⌜ memory-view (now (m .exit)) ≡ desk-without (memory-view (now (m .entry))) c n ⌝ }
 {
     m[SN + c as usize] = previous(n) as u64;
     logs::remove(&mut m[LOG..MEMORY], c, n);

@@ -10,7 +10,7 @@ use lib.Dec.{eqb}
 use borrow.Author.Tests.{eqb-true, eq-eqb}
 use Rattle.lists.specs.Tests.{either, and-i, and4, true-not-false}
 use Rattle.lists.specs.Map.{upd, upd-same, upd-other, upd-upd, upd-self}
-use Rattle.lists.specs.Lists.{_∈_, All, allb-ext, anyb, true-anyb, keep, keep-mem, keep-append, keep-all, remove1, remove1-snoc}
+use Rattle.lists.specs.Lists.{_∈_, All, allb-ext, anyb, true-anyb, keep, keep-mem, keep-append, keep-all, remove1-snoc}
 use Rattle.lists.specs.Questions.{Result, ok, refuse, put-all, put-ok}
 use Rattle.protocol.specs.declared.Content.the-variants.{Ask as ASK}
 use Rattle.protocol.specs.Parts.{Memory, State, start, every-chare, on, is-catching-up}
@@ -18,7 +18,7 @@ use Rattle.protocol.specs.Setters.{with-log, with-sn}
 use Rattle.protocol.specs.Sending.{is-local, about, put, next-message, log-message, send-remote, send-message, send}
 use Rattle.protocol.specs.Packets.{kind, is-named, for-receiver}
 use Rattle.protocol.specs.Restart.{has-caught-up, is-done, settle}
-use Rattle.protocol.specs.Withdraw.{last-sn, is-other, take-back, withdraw}
+use Rattle.protocol.specs.Withdraw.{last-sn, is-other, desk-without, take-back, withdraw}
 use Rattle.protocol.specs.Frames as frames
 use Rattle.protocol.specs.Frames.{Line, Frame, frame}
 use Rattle.protocol.specs.Questions.{questions}
@@ -82,10 +82,7 @@ module _ {s : State} {h : History} (k : Kept s h) (c value hops : ℕ) where
   abbrev desk : Memory
   desk = with-log (with-sn (s .live 0) (upd c n (s .live 0 .sn))) (s .live 0 .log ++ (record { message = next-message s 0 c value hops; tn = 0 } ∷ []))
 
-  abbrev without : Memory → Memory
-  without m = with-log (with-sn m (upd c (n - 1) (m .sn))) (remove1 (for-receiver c n) (m .log))
-
-  desk-back : without desk ≡ s .live 0
+  desk-back : desk-without desk c n ≡ s .live 0
   unfolding next-message for-receiver
   desk-back =
       let m = s .live 0 in
@@ -110,7 +107,7 @@ module _ {s : State} {h : History} (k : Kept s h) (c value hops : ℕ) where
   whole : take-back sent c n ≡ s
   unfolding take-back send send-message send-remote put log-message is-local next-message
   whole =
-      let p = ap (λ m. upd 0 (without m) (upd 0 desk (s .live))) at-desk ∙ ap (λ m. upd 0 m (upd 0 desk (s .live))) desk-back ∙ upd-upd 0 (s .live 0) desk (s .live) ∙ upd-self 0 (s .live) in
+      let p = ap (λ m. upd 0 (desk-without m c n) (upd 0 desk (s .live))) at-desk ∙ ap (λ m. upd 0 m (upd 0 desk (s .live))) desk-back ∙ upd-upd 0 (s .live 0) desk (s .live) ∙ upd-self 0 (s .live) in
       let q = wire-back in
       λ i. record { job = s .job; lost = s .lost; status = s .status; target = s .target; live = p i; held = s .held; copy = s .copy; notes = s .notes; wire = q i }
 

@@ -21,7 +21,8 @@ use Rattle.protocol.specs.Recovery.Along.{after-frame, along}
 use Rattle.protocol.specs.Recovery.Holes.{no-holes, is-hole, restart-holes, give, give-asked, change-holes, holes-after}
 use Rattle.protocol.specs.Recovery.Theorem.{demand3}
 
--- the desk takes a message back and sends another; chare 1 works it, its machine crashes and restarts, the message comes again and is worked again
+-- the desk takes a message back and sends another; chare 1 works it, its machine crashes and restarts, the message comes again and is
+-- worked again
 unfoldable pub recovering : String
 recovering = two ++ "1001000900\n1701\n1001000300\n" ++ through "0001" ++ "1201\n1401\n1501\n110300010001\n1201\n"
 

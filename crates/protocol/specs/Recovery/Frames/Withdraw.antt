@@ -39,7 +39,7 @@ use Rattle.protocol.specs.Recovery.Invariant.Linked.{world}
 use Rattle.protocol.specs.Recovery.Invariant.Counts.{chare-not-desk}
 use Rattle.protocol.specs.Recovery.Invariant.Good.{Good, Told, Carried, keep-remove1, linked-wire, linked-memory}
 use Rattle.protocol.specs.Recovery.Invariant.Silent.{silent-memory}
-use Rattle.protocol.specs.Recovery.Steps.Withdraw.{desk-without, withdraw-step}
+use Rattle.protocol.specs.Recovery.Steps.Withdraw.{desk-after, withdraw-step}
 use Rattle.protocol.specs.Recovery.Frames.States.{live}
 use Rattle.protocol.specs.Recovery.Frames.Calm.{Calm, calm-told}
 use Rattle.protocol.specs.Recovery.Frames.Grow.{Onward}
@@ -59,7 +59,7 @@ module _ {s : State} {x : Run} {stable : ℕ → ℕ} (ok : RunOk (s .job) x) (r
   unfolding take-back
   withdrawn-good =
       let w = world s x stable (g .mem) in
-      let f = desk-without w r value hops in
+      let f = desk-after w r value hops in
       let n : x .sn 0 r + 1 - 1 ≡ x .sn 0 r = omega arith in
       rw n (record {
         mem = upd 0 (f (g .mem 0)) (g .mem);

@@ -45,14 +45,14 @@ module _ (w : World) (c value hops : ℕ) where
   before = put-run w (run-send (w .run) 0 c value hops)
 
   -- the desk's memory afterwards
-  abbrev pub desk-without : Memory → Memory
-  desk-without m = with-log (with-sn m (upd c (w .run .sn 0 c) (m .sn))) (remove1 (for-receiver c (w .run .sn 0 c + 1)) (m .log))
+  abbrev pub desk-after : Memory → Memory
+  desk-after m = with-log (with-sn m (upd c (w .run .sn 0 c) (m .sn))) (remove1 (for-receiver c (w .run .sn 0 c + 1)) (m .log))
 
   abbrev mem : ℕ → Memory
-  mem = upd 0 (desk-without (w .mem 0)) (w .mem)
+  mem = upd 0 (desk-after (w .mem 0)) (w .mem)
 
   abbrev pub without : World
-  without = put-wire (put-mem w (upd 0 (desk-without (w .mem 0)) (w .mem))) (keep (is-other c (w .run .sn 0 c + 1)) (w .wire))
+  without = put-wire (put-mem w (upd 0 (desk-after (w .mem 0)) (w .mem))) (keep (is-other c (w .run .sn 0 c + 1)) (w .wire))
 
   abbrev Named : ℕ → ℕ → ℕ → Type 0
   Named s r n = (s ≡ 0) × (r ≡ c) × (n ≡ withdrawn)
@@ -158,7 +158,7 @@ module _ (w : World) (c value hops : ℕ) where
     images = record {
       image = λ r k. subst (λ m. Image (w .job) (w .run) r m (counted nothing-pending r (m .sn))) (sym (chare-at r k))
           (let i = inv .images .image r k in record { reached = i .reached; state = i .state; counts = i .counts; marks = i .marks });
-      desk = counted-nothing 0 (mem 0 .sn) ∙ ap (λ (m : Memory). m .sn) (upd-same 0 (desk-without (w .mem 0)) (w .mem))
+      desk = counted-nothing 0 (mem 0 .sn) ∙ ap (λ (m : Memory). m .sn) (upd-same 0 (desk-after (w .mem 0)) (w .mem))
           ∙ ap (upd c (w .run .sn 0 c)) desk-now ∙ upd-upd c _ _ (w .run .sn 0) ∙ upd-self c (w .run .sn 0);
       owed = tt;
       owing = inl refl;
@@ -265,7 +265,7 @@ module _ (w : World) (c value hops : ℕ) where
         }
 
     logs : Logs (w .job) (w .run) (w .stable) mem
-    logs a k = upd-ind (λ a m. Sender (w .job) a → Log (w .job) (w .run) (w .stable) mem a (m .log) (m .sn)) 0 (desk-without (w .mem 0)) (w .mem)
+    logs a k = upd-ind (λ a m. Sender (w .job) a → Log (w .job) (w .run) (w .stable) mem a (m .log) (m .sn)) 0 (desk-after (w .mem 0)) (w .mem)
         (λ _. desk-log) (λ a d k. other-log d (inv .logs a k)) a k
 
     copies : Copies (w .job) (w .run) (w .stable) mem (w .held) (w .copy)
