@@ -22,7 +22,7 @@ use Rattle.protocol.specs.Recovery.Invariant.Clauses.{Chare, Sender, Inv
 use Rattle.protocol.specs.Recovery.Invariant.Linked.{world}
 use Rattle.protocol.specs.Recovery.Laws.Places.{place-in}
 use Rattle.protocol.specs.Recovery.Invariant.Good.{Carried}
-use Rattle.protocol.specs.Recovery.Invariant.Counts.{counted-nothing, chare-not-desk, image-now, full-counts, sent-logged}
+use Rattle.protocol.specs.Recovery.Invariant.Counts.{desk-now, chare-not-desk, image-now, full-counts, sent-logged}
 use Rattle.protocol.specs.Recovery.Laws.Status.{down-not-up, up?, neither-up}
 
 -- no number but a machine's is ever down or catching up
@@ -86,7 +86,7 @@ module _ {s : State} {h : History} (c : Carried s h) (ranged : Ranged s) (quiet 
 
   -- whoever sends has sent all that the run has sent from there
   settled-counts : (a : ℕ) → Sender (s .job) a → mem a .sn ≡ x .sn a
-  settled-counts a (inl e) = subst (λ a. mem a .sn ≡ x .sn a) (sym e) (sym (counted-nothing 0 (mem 0 .sn)) ∙ inv .images .desk)
+  settled-counts a (inl e) = subst (λ a. mem a .sn ≡ x .sn a) (sym e) (desk-now (inv .images))
   settled-counts a (inr chare) = full-counts (inv .images) a chare (inv .job) ok (full-height a chare)
 
   -- an unworked message is not stable

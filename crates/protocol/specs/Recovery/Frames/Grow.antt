@@ -35,9 +35,8 @@ use Rattle.protocol.specs.Recovery.Steps.Inject.{inject-step}
 use Rattle.protocol.specs.Recovery.Steps.Work.{WorkStep, work-step}
 use Rattle.protocol.specs.Recovery.Frames.Calm.{calm-told, calm-send-all}
 use Rattle.protocol.specs.Recovery.Frames.SendAll.{keep-send-all, all-sent}
-use Rattle.protocol.specs.Recovery.Frames.Waiting.{same-waits, waiting-grown, work-stays, inject-waits}
+use Rattle.protocol.specs.Recovery.Frames.Waiting.{same-waits, desk-not-down, waiting-grown, work-stays, inject-waits}
 use Rattle.protocol.specs.Recovery.Invariant.Ticks.{stable-reached}
-use Rattle.protocol.specs.Recovery.Laws.Status.{up-not-down}
 
 -- what is carried on, its run grown
 pub record Onward {s : State} {h : History} (c : Carried s h) (t : State) (k : History) : Type 0 where
@@ -82,9 +81,6 @@ module _ {s : State} {h : History} (c : Carried s h) (r v n : ℕ) (chare : Char
         nobody = λ a k. (c .told .nobody a k .0, ap (λ f. f a) e ∙ c .told .nobody a k .1);
       }
 
-  desk-up : s .status (s .job .home 0) ≢ Down
-  desk-up d = up-not-down (sym (ap (s .status) (c .good .inv .job .desk) ∙ c .good .inv .machines .desk) ∙ d)
-
   pub inject-frame : Onward c (send-all s 0 (r ∷ []) v n) (recorded s h (inject r v n))
   unfolding put-to-all recorded send-all run-send
   inject-frame =
@@ -96,7 +92,7 @@ module _ {s : State} {h : History} (c : Carried s h) (r v n : ℕ) (chare : Char
           stable = c .stable;
           is-run = subst (λ j. crash-free (ports j) (h .injections ++ (injection ∷ [])) (c .works) ≡ some longer) (sym (k .job)) is-longer;
           chares = more-chares;
-          good = sent-good 0 v n (keep-send-all s longer-ok 0 (r ∷ []) v n owing desk-up (and-i _ _ admits refl));
+          good = sent-good 0 v n (keep-send-all s longer-ok 0 (r ∷ []) v n owing (desk-not-down (c .good)) (and-i _ _ admits refl));
           told = calm-told k same-told;
           waiting = same-waits (sym (send-worked (c .run) 0 r v n)) (inject-waits (run-ok (s .job) (h .injections) (c .works) (c .run) (c .chares) (c .is-run)) (c .good) r v n (c .waiting));
         };

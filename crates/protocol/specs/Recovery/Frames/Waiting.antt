@@ -41,7 +41,7 @@ use Rattle.protocol.specs.Recovery.Laws.Status.{up-not-down}
 use Rattle.protocol.specs.Recovery.Run.Grown.{place-back}
 use Rattle.protocol.specs.Recovery.Invariant.World.{World, Pending, nothing-pending, LoggedAs}
 use Rattle.protocol.specs.Recovery.Invariant.Clauses.{Chare, Waiting, InvP, Fits}
-use Rattle.protocol.specs.Recovery.Invariant.Counts.{counted-nothing}
+use Rattle.protocol.specs.Recovery.Invariant.Counts.{desk-now}
 use Rattle.protocol.specs.Recovery.Invariant.Ticks.{tick-entered}
 use Rattle.protocol.specs.Recovery.Invariant.Good.{Good}
 use Rattle.protocol.specs.Recovery.Invariant.Senders.{key-receiver}
@@ -105,7 +105,7 @@ module _ {p : Pending} {s : State} {x : Run} {stable : ℕ → ℕ} (g : Good p 
   }
 
 pub desk-counts : {s : State} {x : Run} {stable : ℕ → ℕ} (g : Good nothing-pending s x stable) → s .live 0 .sn ≡ x .sn 0
-desk-counts {s} g = ap (λ (m : Memory). m .sn) (sym (desk-live g)) ∙ sym (counted-nothing 0 (g .mem 0 .sn)) ∙ g .inv .images .desk
+desk-counts {s} g = ap (λ (m : Memory). m .sn) (sym (desk-live g)) ∙ desk-now (g .inv .images)
 
 -- ---- sending
 -- whoever is not the desk leaves its log

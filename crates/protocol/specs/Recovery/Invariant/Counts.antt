@@ -22,6 +22,10 @@ counted-nothing a f = either (eqb a 0) (λ e. rw e) (λ e. rw e)
 pub chare-not-desk : {j : Job} → JobOk j → (c : ℕ) → Chare j c → c ≢ 0
 chare-not-desk {j} job c h e = h (ap (j .home) e ∙ job .desk)
 
+-- the desk has sent what the run has sent from there
+pub desk-now : {j : Job} {x : Run} {mem : ℕ → Memory} → Images j x nothing-pending mem → mem 0 .sn ≡ x .sn 0
+desk-now {mem = mem} images = sym (counted-nothing 0 (mem 0 .sn)) ∙ images .desk
+
 module _ {j : Job} {x : Run} {mem : ℕ → Memory} (images : Images j x nothing-pending mem) (c : ℕ) (chare : Chare j c) where
   pub image-now : Image j x c (mem c) (mem c .sn)
   image-now = subst (Image j x c (mem c)) (counted-nothing c (mem c .sn)) (images .image c chare)

@@ -14,7 +14,7 @@ use Rattle.protocol.specs.Recovery.Run.Send.{send-sn-same, send-sends, s
 use Rattle.protocol.specs.Recovery.Run.Laws.{ForChares, run-ok}
 use Rattle.protocol.specs.Recovery.Invariant.World.{World, put-run, Pending, nothing-pending}
 use Rattle.protocol.specs.Recovery.Invariant.Clauses.{Chare, Domain, Image, Images, InvP}
-use Rattle.protocol.specs.Recovery.Invariant.Counts.{counted-nothing, chare-not-desk, image-now}
+use Rattle.protocol.specs.Recovery.Invariant.Counts.{desk-now, chare-not-desk, image-now}
 use Rattle.protocol.specs.Recovery.Invariant.Owing.{counted-sender, counted-other, count-all-one, owed-one}
 use Rattle.protocol.specs.Recovery.Run.Grown.{Grown, image-grown, table-grown}
 use Rattle.protocol.specs.Recovery.Steps.Grow.{GoneOn, run-grows}
@@ -37,14 +37,11 @@ module _ {w : World} (is : List Injection) (ws : List Work) (for-chares : ForCha
     sender = λ m h. elim (sent-before (w .run) 0 (i .chare) (i .value) (i .hops) m h) [ inl k ↦ inv .domain .sender m k | inr e ↦ inl (ap (λ (m : Message). m .sender) e) ];
   }
 
-  desk-now : w .mem 0 .sn ≡ w .run .sn 0
-  desk-now = sym (counted-nothing 0 (w .mem 0 .sn)) ∙ inv .images .desk
-
   images : Images (w .job) after (injected i) (w .mem)
   images = record {
     image = λ c k. image-grown grown (subst (λ f. Image (w .job) (w .run) c (w .mem c) f) (sym (counted-other (injected i) c (w .mem c .sn) (chare-not-desk (inv .job) c k))) (image-now (inv .images) c k));
-    desk = counted-sender (injected i) (w .mem 0 .sn) ∙ count-all-one (i .chare) (w .mem 0 .sn) ∙ ap (λ f. upd (i .chare) (f (i .chare) + 1) f) desk-now ∙ sym (send-sn-same (w .run) 0 (i .chare) (i .value) (i .hops));
-    owed = owed-one after 0 (i .chare) (i .value) (i .hops) (w .mem 0 .sn) (subst (λ f. Sent after (record { sender = 0; receiver = i .chare; sn = f (i .chare) + 1; value = i .value; hops = i .hops })) (sym desk-now) (send-sends (w .run) 0 (i .chare) (i .value) (i .hops)));
+    desk = counted-sender (injected i) (w .mem 0 .sn) ∙ count-all-one (i .chare) (w .mem 0 .sn) ∙ ap (λ f. upd (i .chare) (f (i .chare) + 1) f) (desk-now (inv .images)) ∙ sym (send-sn-same (w .run) 0 (i .chare) (i .value) (i .hops));
+    owed = owed-one after 0 (i .chare) (i .value) (i .hops) (w .mem 0 .sn) (subst (λ f. Sent after (record { sender = 0; receiver = i .chare; sn = f (i .chare) + 1; value = i .value; hops = i .hops })) (sym (desk-now (inv .images))) (send-sends (w .run) 0 (i .chare) (i .value) (i .hops)));
     owing = inl refl;
     owed-to = all-cons chare (all-nil _);
   }

@@ -31,7 +31,7 @@ use Rattle.protocol.specs.Recovery.Laws.Changes.{Key, pair-eq}
 use Rattle.protocol.specs.Recovery.Laws.Lookups.{mem-removed, removed-key, nodup-removed, entry-key}
 use Rattle.protocol.specs.Recovery.Invariant.World.{World, put-run, put-mem, put-wire, nothing-pending, counted, Owed, Place, HasEntry, Tick, Stable, SentKey, InLog, LoggedAs}
 use Rattle.protocol.specs.Recovery.Invariant.Clauses.{Chare, Sender, Image, Images, Heights, Table, Tables, Ordered, Remembered, Noted, Log, Logs, Copies, Notes, Fits, PacketOk, InvP}
-use Rattle.protocol.specs.Recovery.Invariant.Counts.{counted-nothing, chare-not-desk}
+use Rattle.protocol.specs.Recovery.Invariant.Counts.{counted-nothing, desk-now, chare-not-desk}
 use Rattle.protocol.specs.Recovery.Invariant.Senders.{local-chare, key-receiver}
 use Rattle.protocol.specs.Recovery.Steps.Settle.{logged-tick}
 
@@ -146,11 +146,11 @@ module _ (w : World) (c value hops : ℕ) where
         })
         (λ a _ d y. y) a
 
-    desk-now : w .mem 0 .sn ≡ upd c withdrawn (w .run .sn 0)
-    desk-now = sym (counted-nothing 0 (w .mem 0 .sn)) ∙ inv .images .desk ∙ send-sn-same (w .run) 0 c value hops
+    desk-before : w .mem 0 .sn ≡ upd c withdrawn (w .run .sn 0)
+    desk-before = desk-now (inv .images) ∙ send-sn-same (w .run) 0 c value hops
 
     last : w .mem 0 .sn c ≡ withdrawn
-    last = ap (λ f. f c) desk-now ∙ upd-same c withdrawn (w .run .sn 0)
+    last = ap (λ f. f c) desk-before ∙ upd-same c withdrawn (w .run .sn 0)
 
     -- ---- clause by clause
     images : Images (w .job) (w .run) nothing-pending mem
@@ -159,7 +159,7 @@ module _ (w : World) (c value hops : ℕ) where
       image = λ r k. subst (λ m. Image (w .job) (w .run) r m (counted nothing-pending r (m .sn))) (sym (chare-at r k))
           (let i = inv .images .image r k in record { reached = i .reached; state = i .state; counts = i .counts; marks = i .marks });
       desk = counted-nothing 0 (mem 0 .sn) ∙ ap (λ (m : Memory). m .sn) (upd-same 0 (desk-after (w .mem 0)) (w .mem))
-          ∙ ap (upd c (w .run .sn 0 c)) desk-now ∙ upd-upd c _ _ (w .run .sn 0) ∙ upd-self c (w .run .sn 0);
+          ∙ ap (upd c (w .run .sn 0 c)) desk-before ∙ upd-upd c _ _ (w .run .sn 0) ∙ upd-self c (w .run .sn 0);
       owed = tt;
       owing = inl refl;
       owed-to = all-nil _;

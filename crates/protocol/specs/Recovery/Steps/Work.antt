@@ -24,7 +24,7 @@ use Rattle.protocol.specs.Recovery.Run.Laws.{ForChares, run-ok, work-mor
 use Rattle.protocol.specs.Recovery.Laws.Marks.{In, Reach, in-snoc}
 use Rattle.protocol.specs.Recovery.Invariant.World.{World, put-run, put-mem, Pending, nothing-pending, counted, Owed, Place}
 use Rattle.protocol.specs.Recovery.Invariant.Clauses.{Chare, Domain, Image, Images, Heights, Table, InvP}
-use Rattle.protocol.specs.Recovery.Invariant.Counts.{counted-nothing, chare-not-desk, image-now}
+use Rattle.protocol.specs.Recovery.Invariant.Counts.{desk-now, chare-not-desk, image-now}
 use Rattle.protocol.specs.Recovery.Invariant.Owing.{counted-sender, counted-other, folded-to}
 use Rattle.protocol.specs.Recovery.Run.Grown.{image-grown, table-grown}
 use Rattle.protocol.specs.Recovery.Steps.Grow.{run-grows}
@@ -86,7 +86,7 @@ module _ {w : World} {y : Run} (inv : InvP nothing-pending w) (c : ℕ) (e : Ent
         (λ k. image-after)
         (λ a d k. image-grown (g .grown) (subst⁻¹ (Image (w .job) (w .run) a (w .mem a)) (counted-other (worked-owes w c e) a (w .mem a .sn) d) (image-now (inv .images) a k)));
     desk = subst⁻¹ (λ (m : Memory). counted (worked-owes w c e) 0 (m .sn) ≡ y .sn 0) (upd-other c _ (w .mem) 0 desk)
-        (counted-other (worked-owes w c e) 0 (w .mem 0 .sn) desk ∙ sym (counted-nothing 0 (w .mem 0 .sn)) ∙ inv .images .desk ∙ sym (g .desk));
+        (counted-other (worked-owes w c e) 0 (w .mem 0 .sn) desk ∙ desk-now (inv .images) ∙ sym (g .desk));
     owed = subst⁻¹ (λ (m : Memory). Owed y c (receivers (ports (w .job)) c (e .hops)) (sent-value (work (w .mem c .state) (e .value))) (e .hops - 1) (m .sn)) (upd-same c _ (w .mem)) owed-after;
     owing = inr (n .chare);
     owed-to = inv .job .ports c (e .hops);
