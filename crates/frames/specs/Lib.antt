@@ -8,3 +8,4 @@ pub mod Read
 pub mod KindLaws
 pub mod TableLaws
 pub mod ReadLaws
+pub mod LongLine

@@ -1,1 +1,2 @@
--- What the contracts of lines say is all in the rule book's Lines.
+-- What the contracts of lines say beyond the rule book's Lines, and the laws behind it.
+pub mod LineEnd

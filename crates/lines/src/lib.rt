@@ -1,11 +1,26 @@
-// The line that an answer prints, with its newline.
+// Lines in and out: where the first line of an input ends; the line that an answer prints, with its newline.
 ghost use mathlib.Core.Path.{_≡_};
 ghost use mathlib.Core.List.{_∷_, _++_};
 ghost use Prim.Native.Nat.{_+_, _≤_, _%_};
 ghost use lib.ListN.{length, drop};
 ghost use Rattle.protocol.specs.Lines.{newline, printed-digit, letter, line};
+ghost use Rattle.lines.specs.LineEnd.{line-end};
 use protocol::Answer;
 use protocol::Rule;
+
+// How many bytes stand before the first newline.
+pub fn line_end(input: &[u8]) -> usize
+    ensures { λ r. ⌜ r ≡ line-end (now (input .entry)) ⌝ }
+{
+    let mut i = 0;
+    while i < input.len() {
+        if input[i] == 10 {
+            return i;
+        }
+        i += 1;
+    }
+    i
+}
 
 // The last hexadecimal digit of a number.
 fn digit(n: u32) -> u8

@@ -1,7 +1,9 @@
--- The count that a caller in C gets, and what its buffer then holds.
-use Rattle.lists.specs.Basics.{true, false, cond, List, _++_, _≡_, sym, ap, _∙_, ℕ, length, drop}
+-- The counts that a caller in C gets, and what its buffer then holds.
+use Rattle.lists.specs.Basics.{true, false, cond, List, [], _++_, _≡_, sym, ap, _∙_, ℕ, _≤_, _<_, leb, le-leb, lt-leb, length, drop}
 use Rattle.transcript.specs.{View.{enough, whole-output, Transcribed}, declared.Ended.Ended}
 use Rattle.protocol.specs.Step.{answers}
+use Rattle.arrays.specs.Copies.{Wrote}
+use Rattle.crashsets.specs.{CrashSets.survivors, Digits.ROOM}
 
 -- the largest number of 64 bits: the buffer has no room for all answers
 abbrev pub no-room : ℕ
@@ -25,3 +27,20 @@ module _ (input room : List ℕ) (e : Ended) (out : List ℕ) (t : Transcribed i
   pub not-entered : e .ok ≡ false → Entered input room no-room out
   unfolding counted
   not-entered h = record { count = rw (sym (t .ok) ∙ h); bytes = bytes-there }
+
+-- document 02, Point 8: all lines, or nothing where the buffer may be too short for them
+unfoldable pub lines-written : ℕ → List ℕ → List ℕ
+lines-written room input = cond (leb ROOM room) (survivors input) []
+
+pub record Counted (input room : List ℕ) (r : ℕ) (out : List ℕ) : Type 0 where
+  pub count : r ≡ cond (leb ROOM (length room)) (length (survivors input)) no-room
+  pub bytes : out ≡ lines-written (length room) input ++ drop (length (lines-written (length room) input)) room
+
+module _ (input room : List ℕ) where
+  pub counted-lines : ROOM ≤ length room → (r : ℕ) (out : List ℕ) → Wrote room (survivors input) r out → Counted input room r out
+  unfolding lines-written
+  counted-lines h r out w = let e = le-leb ROOM (length room) h in record { count = rw e (w .count); bytes = w .bytes ∙ rw (e, w .count) }
+
+  pub not-counted : length room < ROOM → Counted input room no-room room
+  unfolding lines-written
+  not-counted h = let e = lt-leb ROOM (length room) h in record { count = rw e; bytes = rw e }

@@ -1,5 +1,6 @@
-// The entry of the static library, for callers in C and Rust.
-ghost use Rattle.satuphir.specs.Entry.{Entered};
+// The entries of the static library, for callers in C and Rust.
+ghost use Rattle.satuphir.specs.Entry.{Entered, Counted};
+use crashsets::ROOM;
 
 // Writes the answers to a whole input into the buffer and returns how many bytes they are. Where the buffer has no room for all of
 // them it returns the largest number, and the buffer begins with the answers to the lines that were taken; 16 bytes a line are enough.
@@ -12,4 +13,16 @@ pub extern "C" fn satuphir_transcript(input: &[u8], out: &mut [u8]) -> usize
         return e.written;
     }
     usize::MAX
+}
+
+// Writes how many crash sets are survived by the job in the first line of the input, and returns how many bytes these lines are. Where
+// the buffer has fewer than 48 bytes it returns the largest number, and the buffer is left as it is.
+#[no_mangle]
+pub extern "C" fn satuphir_survivors(input: &[u8], out: &mut [u8]) -> usize
+    ensures { λ r. ⌜ Counted (now (input .entry)) (now (out .entry)) r (now (out .exit)) ⌝ }
+{
+    if out.len() < ROOM {
+        return usize::MAX;
+    }
+    crashsets::survivors_on(input, out)
 }

@@ -4,9 +4,10 @@ use Rattle.lists.specs.Basics.{eqb, leb, length, take, drop, length-append, len
 use Rattle.lists.specs.Tests.{either}
 use Rattle.protocol.specs.{Lines.{newline, lines}}
 use Rattle.store.specs.View.{view}
+use Rattle.arrays.specs.Copies.{rest-stays, wrote-more}
 use Rattle.transcript.specs.{Reading.{Reading, LINE, line-room, answer-room, within, beginning, read-byte, byte-output, read-all, output}}
 use Rattle.transcript.specs.{Reading.{is-empty, last-output, takes, finishes, end-state}}
-use Rattle.transcript.specs.{Pieces.{kept-empty, reads-transcript}, Copies.{rest-stays, wrote-more}, Demand.{after, ended-state}}
+use Rattle.transcript.specs.{Pieces.{kept-empty, reads-transcript}, Demand.{after, ended-state}}
 use Rattle.transcript.specs.{View.{reading, Feeding, end-output, Ending, enough, whole-output, Transcribed}, declared.Fed.Fed, declared.Ended.Ended}
 
 -- ---- what was taken lies within the input, what was written within the buffer

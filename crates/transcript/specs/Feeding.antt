@@ -2,8 +2,10 @@
 use Rattle.lists.specs.Basics.{List, [], _++_, append-nil, _≡_, refl, sym, ap, _∙_, ℕ, suc, _+_, _-_, _≤_, _<_, arith, length, take, drop, length-append, length-drop}
 use Rattle.lists.specs.Basics.{take-append-drop, take-take, drop-length}
 use Rattle.protocol.specs.{Parts.State, Frames.Line, Step.{Outcome, step}}
-use Rattle.transcript.specs.{Reading.{Reading, line-room, answer-room, within, printed, takes}, Pieces.kept-step, Copies.{put-at, wrote-more}, Printed.printed-fits}
-use Rattle.transcript.specs.{LineWise.{line-end, line-part, Reads, reads-none, reads-more, reads-part, reads-line, takes-none}}
+use Rattle.arrays.specs.Copies.{put-at, wrote-more}
+use Rattle.lines.specs.LineEnd.{line-end, line-part}
+use Rattle.transcript.specs.{Reading.{Reading, line-room, answer-room, within, printed, takes}, Pieces.kept-step, Printed.printed-fits}
+use Rattle.transcript.specs.{LineWise.{Reads, reads-none, reads-more, reads-part, reads-line, takes-none}}
 
 -- r was fed the first t bytes of the input and is `now`; it wrote w bytes, its answers, to a buffer that held out₀
 pub record Fed-so-far (r : Reading) (input out₀ : List ℕ) (now : Reading) (t w : ℕ) (out : List ℕ) : Type 0 where

@@ -4,7 +4,6 @@ pub mod Demand
 pub mod Pieces
 pub mod Chunks
 pub mod LineWise
-pub mod Copies
 pub mod Printed
 pub mod Feeding
 pub mod View

@@ -2,36 +2,11 @@
 use Rattle.lists.specs.Basics.{false, List, [], _∷_, _++_, append-assoc, append-nil, _≡_, refl, _∙_, ℕ, suc, _+_, _-_, _≤_, _<_, add-one, arith, le-leb, lt-leb}
 use Rattle.lists.specs.Basics.{eq-eqb, ne-eqb, eqb, length, take, drop, getD, length-append, drop-of-length-le, drop-cons, drop-drop, take-add}
 use Rattle.lists.specs.Tests.{either}
-use Rattle.arrays.specs.Place.{place, place-le}
+use Rattle.arrays.specs.Place.{place}
+use Rattle.lines.specs.LineEnd.{line-end, line-part}
 use Rattle.protocol.specs.{Parts.State, Frames.Line, Lines.newline, Step.step}
 use Rattle.transcript.specs.{Reading.{Reading, answer-room, within, printed, read-byte, byte-output, read-all, output, takes}}
 use Rattle.transcript.specs.{Pieces.{read-append, output-append, ends-state, ends-output, goes-on, goes-on-silent}}
-
--- how many bytes stand before the first newline; all, where there is none
-unfoldable pub line-end : List ℕ → ℕ
-line-end i = place (λ b. eqb b newline) i
-
-pub line-end-le : (i : List ℕ) → line-end i ≤ length i
-unfolding line-end
-line-end-le i = place-le (λ b. eqb b newline) i
-
--- the part of the input that belongs to the line under way
-abbrev pub line-part : List ℕ → List ℕ
-line-part i = take (line-end i) i
-
--- ---- the loop that looks for it: k bytes are none
-module _ (i : List ℕ) (k : ℕ) (inv : line-end i ≡ k + line-end (drop k i)) where
-  pub end-here : k < length i → getD i k 0 ≡ newline → k ≡ line-end i
-  unfolding line-end place
-  end-here h e = let f = rw (drop-cons i k 0 h, eq-eqb _ newline e) at inv in omega arith
-
-  pub end-later : k < length i → (getD i k 0 ≡ newline → ⊥) → line-end i ≡ k + 1 + line-end (drop (k + 1) i)
-  unfolding line-end place
-  end-later h n = let f = rw (drop-cons i k 0 h, ne-eqb _ newline n) at inv in rw add-one (omega arith)
-
-  pub end-nowhere : length i ≤ k → k ≡ line-end i
-  unfolding line-end place
-  end-nowhere h = let f = rw (drop-of-length-le i {i = k} h) at inv in omega arith
 
 -- ---- with so much room r takes the first m bytes of i, which print o, and goes on as `next`, with the room that is left
 pub record Reads (room : ℕ) (r : Reading) (m : ℕ) (i : List ℕ) (left : ℕ) (next : Reading) (o : List ℕ) : Type 0 where

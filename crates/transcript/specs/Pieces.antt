@@ -3,7 +3,7 @@ use Rattle.lists.specs.Basics.{true, false, cond, List, [], _∷_, _++_, append
 use Rattle.lists.specs.Basics.{take-all, take-nil, inl, inr}
 use Rattle.lists.specs.Tests.{either, lt?}
 use Rattle.protocol.specs.{Parts.{State, start}, Frames.Line, Lines.{newline, extend, lines, line, print}, Step.{step, answers-from, answers}}
-use Rattle.engine.specs.LongLine.{long-line}
+use Rattle.frames.specs.LongLine.{long-line}
 use Rattle.transcript.specs.Reading.{Reading, line-room, within, beginning, printed, read-byte, byte-output, read-all, output, is-empty, last-output}
 
 -- ---- pieces

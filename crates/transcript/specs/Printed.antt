@@ -1,7 +1,8 @@
 -- An answer's line with its newline has at most 16 bytes.
 use Rattle.lists.specs.Basics.{List, [], _∷_, _++_, _≡_, refl, sym, ap, _∙_, ℕ, zero, suc, _+_, _-_, _≤_, _/_, arith, length, take, drop, append-nil, append-assoc, length-append, length-drop, drop-drop, take-all, drop-of-length-le}
 use Rattle.protocol.specs.{declared.Rule.the-variants.Other, declared.Answer.Answer, declared.Answer.the-variants.{Accepted, Shown, Lost, Refused}, Lines.{newline, hexadecimal, two-decimals, line-01, letter, ending, line}}
-use Rattle.transcript.specs.{Copies.put-at, Reading.{answer-room, printed}}
+use Rattle.arrays.specs.Copies.{put-at, put-part}
+use Rattle.transcript.specs.Reading.{answer-room, printed}
 
 length-hexadecimal : (k n : ℕ) → length (hexadecimal k n) ≡ k
 unfolding hexadecimal
@@ -30,8 +31,4 @@ module _ (a : Answer) (n : ℕ) (count : n ≡ length (line a) + 1) where
   pub printed-put : (out : List ℕ) (at : ℕ) (ys : List ℕ) → ys ≡ line a ++ (newline ∷ drop n (take (length out - at) (drop at out)))
       → take at out ++ (ys ++ drop (length out - at) (drop at out)) ≡ put-at out at (printed a)
   unfolding printed
-  printed-put out at ys e =
-      let rest : take (length out - at) (drop at out) ≡ drop at out = take-all (length out - at) (drop at out) (omega (arith, length-drop at out)) in
-      let none : drop (length out - at) (drop at out) ≡ [] = drop-of-length-le (drop at out) {i = length out - at} (omega (arith, length-drop at out)) in
-      rw (e, rest, none, append-nil, drop-drop, ← printed-count)
-      (ap (take at out ++_) (sym (append-assoc (line a) (newline ∷ []) _)) ∙ sym (append-assoc (take at out) (line a ++ (newline ∷ [])) _))
+  printed-put out at ys e = put-part out at n (printed a) ys printed-count (e ∙ sym (append-assoc (line a) (newline ∷ []) _))

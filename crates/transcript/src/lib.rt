@@ -4,10 +4,9 @@ ghost use mathlib.Core.Path.{_≡_};
 ghost use mathlib.Core.List.{_++_};
 ghost use Prim.Native.Nat.{_+_, _≤_, min};
 ghost use lib.ListN.{length, take};
+ghost use Rattle.arrays.specs.Copies.{put-at};
 ghost use Rattle.store.specs.Places.{STORE};
 ghost use Rattle.transcript.specs.Reading.{printed, answer-room, LINE};
-ghost use Rattle.transcript.specs.LineWise.{line-end};
-ghost use Rattle.transcript.specs.Copies.{put-at};
 ghost use Rattle.transcript.specs.View.{reading, Feeding, Ending, Transcribed};
 use protocol::Answer;
 use store::STORE;
@@ -29,20 +28,6 @@ pub struct Fed {
 pub struct Ended {
     pub ok: bool,
     pub written: usize,
-}
-
-// How many bytes stand before the first newline.
-pub fn line_end(input: &[u8]) -> usize
-    ensures { λ r. ⌜ r ≡ line-end (now (input .entry)) ⌝ }
-{
-    let mut i = 0;
-    while i < input.len() {
-        if input[i] == 10 {
-            return i;
-        }
-        i += 1;
-    }
-    i
 }
 
 fn least(a: usize, b: usize) -> usize
@@ -92,7 +77,7 @@ fn feed_on(s: &mut [u64], line: &mut [u8], n: usize, input: &[u8], out: &mut [u8
                 written,
             };
         }
-        let end = taken + line_end(&input[taken..]);
+        let end = taken + lines::line_end(&input[taken..]);
         len = keep(line, len, &input[taken..end]);
         if end == input.len() {
             return Fed {

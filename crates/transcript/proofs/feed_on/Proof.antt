@@ -1,7 +1,9 @@
 -- `feed_on`: the invariant is that what was taken so far is read, and its answers written.
 use Rattle.lists.specs.Basics.{_++_, _≡_, sym, ap, _∙_, _+_, _-_, _≤_, _<_, arith, needs, length, take, drop, length-drop, length-take-le, take-all}
 use Rattle.store.specs.{Places.STORE, View.{view, outcome}}
-use Rattle.transcript.specs.{Reading.{answer-room, LINE, line-room, within}, LineWise.{line-end, line-end-le, line-part}, Copies.take-min, Printed.printed-fits}
+use Rattle.arrays.specs.Copies.{take-min}
+use Rattle.lines.specs.LineEnd.{line-end, line-end-le, line-part}
+use Rattle.transcript.specs.{Reading.{answer-room, LINE, line-room, within}, Printed.printed-fits}
 use Rattle.transcript.specs.{Feeding.{Fed-so-far, nothing-yet, fed-turn, fed-stop, at-end, no-room}, View.{reading, fed}}
 use Rattle.transcript.proofs.feed_on.Statement.{statement}
 use Rattle.transcript.proofs.feed_on.Tie as tie

@@ -1,6 +1,6 @@
 -- `keep` puts a piece behind the bytes of a line, as far as there is room. The invariant: i bytes are copied.
 use Rattle.lists.specs.Basics.{_≡_, refl, ap, _∙_, _+_, _-_, _≤_, arith, needs, take, paste, paste-zero}
-use Rattle.transcript.specs.Copies.{Copied, copy-one, kept-piece}
+use Rattle.arrays.specs.Copies.{Copied, copy-one, kept-piece}
 use Rattle.transcript.proofs.keep.Statement.{statement}
 use Rattle.transcript.proofs.keep.Tie as tie
 

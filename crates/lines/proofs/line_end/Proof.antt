@@ -1,8 +1,8 @@
 -- `line_end` counts the bytes before the first newline. The invariant: those passed are none.
 use Rattle.lists.specs.Basics.{_≡_, _+_, _-_, _≤_, arith, needs, length, drop}
-use Rattle.transcript.specs.LineWise.{line-end, end-here, end-later, end-nowhere}
-use Rattle.transcript.proofs.line_end.Statement.{statement}
-use Rattle.transcript.proofs.line_end.Tie as tie
+use Rattle.lines.specs.LineEnd.{line-end, end-here, end-later, end-nowhere}
+use Rattle.lines.proofs.line_end.Statement.{statement}
+use Rattle.lines.proofs.line_end.Tie as tie
 
 abbrev Inv-loop : tie.InvT-loop
 Inv-loop input i₀ i = (i ≤ length input) × (line-end input ≡ i + line-end (drop i input))
