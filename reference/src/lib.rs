@@ -15,6 +15,7 @@ pub mod recovery;
 pub mod seen;
 pub mod send;
 pub mod state;
+pub mod survivors;
 pub mod table;
 pub mod wire;
 pub mod withdraw;
@@ -34,6 +35,12 @@ pub mod mistake;
 pub mod mood;
 pub mod outlook;
 pub mod rng;
+
+// Layouts and lines whose crash sets to count.
+pub mod buddies;
+pub mod odd;
+pub mod same;
+pub mod slip;
 
 // Demand 3, checked on those lists.
 pub mod census;
