@@ -8,6 +8,15 @@ extern "C" {
         out: *mut u8,
         out_len: usize,
     ) -> usize;
+
+    /// Counts the crash sets of the job in the first line. Writes the lines and returns their length, or writes nothing and returns the
+    /// largest number where there is less room than for the longest answer.
+    fn satuphir_survivors(
+        input: *const u8,
+        input_len: usize,
+        out: *mut u8,
+        out_len: usize,
+    ) -> usize;
 }
 
 /// No line is longer than this, newline included: a show has 14 digits and a letter.
@@ -26,6 +35,25 @@ pub fn transcript(input: &[u8]) -> Vec<u8> {
     let lines = input.iter().filter(|&&b| b == b'\n').count() + 1;
     let mut out = vec![0; LINE_SPACE * lines];
     let len = write_transcript(input, &mut out).expect("16 bytes a line are enough");
+    out.truncate(len);
+    out
+}
+
+/// Room for every answer to a count of crash sets: six lines of at most 8 bytes.
+pub const COUNT_SPACE: usize = 48;
+
+/// The engine's count of the crash sets, written into `out`; its length, if there is room for the longest.
+pub fn write_survivors(input: &[u8], out: &mut [u8]) -> Option<usize> {
+    // Sound: both places are given with their own lengths, and the engine keeps neither.
+    let len =
+        unsafe { satuphir_survivors(input.as_ptr(), input.len(), out.as_mut_ptr(), out.len()) };
+    (len != usize::MAX).then_some(len)
+}
+
+/// The engine's count of the crash sets of the job in the first line.
+pub fn survivors(input: &[u8]) -> Vec<u8> {
+    let mut out = vec![0; COUNT_SPACE];
+    let len = write_survivors(input, &mut out).expect("48 bytes are enough");
     out.truncate(len);
     out
 }
