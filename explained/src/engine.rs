@@ -1,7 +1,7 @@
 //! Whose lines a run gives.
 
 #[cfg(not(feature = "engine"))]
-use reference::reader::answer_all;
+use reference::{reader::answer_all, survivors::answer};
 
 /// Was this built with the proved engine?
 pub const LINKED: bool = cfg!(feature = "engine");
@@ -16,4 +16,16 @@ pub fn lines(input: &[u8]) -> Vec<u8> {
 #[cfg(not(feature = "engine"))]
 pub fn lines(input: &[u8]) -> Vec<u8> {
     answer_all(input)
+}
+
+/// The proved engine's counts of crash sets for the job at the head of a list.
+#[cfg(feature = "engine")]
+pub fn survivors(input: &[u8]) -> Vec<u8> {
+    reference::engine::survivors(input)
+}
+
+/// As above: without the engine, the second implementation's.
+#[cfg(not(feature = "engine"))]
+pub fn survivors(input: &[u8]) -> Vec<u8> {
+    answer(input)
 }

@@ -7,6 +7,7 @@ pub mod lines;
 pub mod notation;
 pub mod play;
 pub mod report;
+pub mod survivors;
 
 // What a frame did, from the state before and after it.
 pub mod names;

@@ -45,7 +45,15 @@ fn help_is_on_standard_output() {
         let (status, out, error) = run(args);
         assert_eq!(status, 0);
         for name in [
-            "play", "explain", "picture", "page", "state", "next", "encode", "decode",
+            "play",
+            "explain",
+            "picture",
+            "page",
+            "state",
+            "next",
+            "survivors",
+            "encode",
+            "decode",
         ] {
             assert!(out.contains(&format!("tools/satuphir {name} ")), "{out}");
         }
@@ -69,6 +77,7 @@ fn every_subcommand_takes_words_and_digits() {
         &["explain", "-"],
         &["state", "6", "-"],
         &["next", "-"],
+        &["survivors", "-"],
         &["encode", "-"],
         &["decode", "-"],
     ] {
@@ -335,6 +344,7 @@ fn quick_says_so() {
         &["page", &list_file, &html],
         &["state", "3", &list_file],
         &["next", &list_file],
+        &["survivors", &list_file],
     ] {
         let quick: Vec<&str> = args.iter().copied().chain(["--quick"]).collect();
         let (status, out, error) = run(&quick);

@@ -61,6 +61,19 @@ fn bad_calls() {
             &["explain", &list, "--pages"],
             "--pages goes with picture alone",
         ),
+        (
+            &["survivors"],
+            "survivors needs a list (a file, or - for standard input)",
+        ),
+        (&["survivors", &list, "3"], "\"3\" is too much"),
+        (
+            &["survivors", &list, "--picture", "x.svg"],
+            "--picture goes with explain alone",
+        ),
+        (
+            &["survivors", &list, "--pages"],
+            "--pages goes with picture alone",
+        ),
     ] {
         let (status, out, error) = run(args);
         assert_eq!((status, out.as_str()), (2, ""), "{args:?}");
@@ -107,6 +120,7 @@ fn a_full_disk() {
         &["explain"],
         &["state", "3"],
         &["next"],
+        &["survivors"],
         &["encode"],
         &["decode"],
         &["--help"],

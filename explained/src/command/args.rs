@@ -12,6 +12,7 @@ pub enum Task {
     Page,
     State(usize),
     Next,
+    Survivors,
     Encode,
     Decode,
 }
@@ -67,6 +68,7 @@ impl Asked {
             Some("page") => Task::Page,
             Some("state") => Task::State(frame(&word("the number of a frame, and a list")?)?),
             Some("next") => Task::Next,
+            Some("survivors") => Task::Survivors,
             Some("encode") => Task::Encode,
             Some("decode") => Task::Decode,
             _ => {

@@ -7,10 +7,10 @@ use super::{Failure, DIFFERENT, DONE, NEEDS_ENGINE};
 use crate::hints::hints;
 use crate::lines::cut;
 use crate::picture::{check_length, Drawing, Story};
-use crate::play::Difference;
 use crate::state::Wrong;
-use crate::{ahead, engine, notation, page, report, state};
+use crate::{ahead, engine, notation, page, report, state, survivors};
 use reference::reader::answer_all;
+use std::fmt::Display;
 
 /// Is the call good, and its list? Says whether the engine is needed.
 pub fn check(asked: &Asked) -> Result<u8, Failure> {
@@ -55,17 +55,46 @@ pub fn run(asked: &Asked) -> Result<u8, Failure> {
     match asked.task {
         Task::Encode => print(&digits)?,
         Task::Decode => print(notation::decode(&digits).as_bytes())?,
+        Task::Survivors => {
+            say(&survivors::notes(&input, &digits));
+            return counts(asked, &digits);
+        }
         _ => {
-            for hint in hints(&input) {
-                eprintln!("satuphir: note: {hint}");
-            }
+            say(&hints(&input));
             return with_lines(asked, &digits);
         }
     }
     Ok(DONE)
 }
 
+fn say(notes: &[String]) {
+    for note in notes {
+        eprintln!("satuphir: note: {note}");
+    }
+}
+
 const QUICK: &str = "the second implementation's, not the proved engine's";
+
+/// Whose lines a quick run gives is said before them.
+fn say_whose(asked: &Asked) {
+    if asked.quick {
+        eprintln!("satuphir: --quick: the lines are {QUICK}");
+    }
+}
+
+/// The counts of crash sets, for the job at the head of the list.
+fn counts(asked: &Asked, digits: &[u8]) -> Result<u8, Failure> {
+    say_whose(asked);
+    let lines = match asked.quick {
+        true => reference::survivors::answer(digits),
+        false => engine::survivors(digits),
+    };
+    let difference = match survivors::compare(digits, &lines) {
+        Ok(()) => print(&lines).map(|()| None)?,
+        Err(difference) => Some(difference),
+    };
+    Ok(status(difference))
+}
 
 /// What needs the lines of the list.
 fn with_lines(asked: &Asked, digits: &[u8]) -> Result<u8, Failure> {
@@ -73,9 +102,7 @@ fn with_lines(asked: &Asked, digits: &[u8]) -> Result<u8, Failure> {
         true => (answer_all(digits), QUICK),
         false => (engine::lines(digits), "the proved engine's"),
     };
-    if asked.quick {
-        eprintln!("satuphir: --quick: the lines are {QUICK}");
-    }
+    say_whose(asked);
     let difference = match asked.task {
         Task::Play => print(&lines).map(|()| None)?,
         Task::State(number) => match state::after(digits, &lines, number) {
@@ -145,7 +172,7 @@ fn put_picture(asked: &Asked, story: &Story) -> Result<(), Failure> {
     Ok(())
 }
 
-fn status(difference: Option<Difference>) -> u8 {
+fn status(difference: Option<impl Display>) -> u8 {
     match difference {
         None => DONE,
         Some(difference) => {

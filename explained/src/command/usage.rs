@@ -7,12 +7,18 @@ tools/satuphir picture LIST OUT.svg      who sent what to whom, as a picture
 tools/satuphir page LIST OUT.html        picture, words and state in one page, to click through
 tools/satuphir state N LIST              all that stands after frame N, with what it changed
 tools/satuphir next LIST                 what would be accepted after the list, and what would not
+tools/satuphir survivors LIST            how many crash sets the buddies of the list's job survive
 tools/satuphir encode LIST               words to hexadecimal digits
 tools/satuphir decode LIST               hexadecimal digits to words
 
 LIST is a file, or - for standard input, in words or in hexadecimal digits (docs/RULES.md has both).
 The line of an accepted frame ends with a letter for the rule used: explain, page and state say what
 it means, and docs/RULES.md has all ten.
+
+survivors looks at the first frame alone, the job. For each f from 1 to the number of machines it
+prints three numbers: f, how many sets of f machines there are, and in how many of these no machine
+stands together with its buddy, so that each one's copy is left if all of the set crash at once. A
+first frame that is no acceptable job gets its line alone. docs/SURVIVORS.md compares layouts.
 
 --quick               play with the second implementation, which builds in seconds: these are not
                       the proved engine's lines, and every such run says so

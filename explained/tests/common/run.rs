@@ -56,6 +56,7 @@ pub fn with_list(list: &OsStr) -> Vec<Vec<&OsStr>> {
         vec![word("page"), list, out],
         vec![word("state"), word("1"), list],
         vec![word("next"), list],
+        vec![word("survivors"), list],
         vec![word("encode"), list],
         vec![word("decode"), list],
     ]
