@@ -1,5 +1,5 @@
 /* The proved engine for callers in C (x86-64). `rt staticlib satuphir` proves it and writes target/staticlib/libsatuphir.a, to be
-   linked; it needs nothing else and keeps nothing between calls. c/play.c is an example. */
+   linked; it needs nothing else and keeps nothing between calls. c/play.c and c/survivors.c are examples. */
 #ifndef SATUPHIR_H
 #define SATUPHIR_H
 
@@ -14,12 +14,23 @@ extern "C" {
    newlines, unless it ends in one. */
 #define SATUPHIR_LINE_SPACE 16
 
-/* The answer where `out` has no room for all lines. It then begins with the lines for which there was room. */
+/* The answer where `out` has no room for all lines. */
 #define SATUPHIR_NO_ROOM SIZE_MAX
 
 /* Plays a whole list, in hexadecimal digits, one frame a line, and writes its lines to `out`. Gives the number of bytes written, or
-   SATUPHIR_NO_ROOM. The two places must not overlap, and neither pointer may be null, not even for a length of 0. */
+   SATUPHIR_NO_ROOM; `out` then begins with the lines for which there was room. The two places must not overlap, and neither pointer
+   may be null, not even for a length of 0. */
 size_t satuphir_transcript(const unsigned char *input, size_t input_len, unsigned char *out, size_t out_len);
+
+/* Room enough for the lines of satuphir_survivors, whatever the job. */
+#define SATUPHIR_SURVIVORS_SPACE 48
+
+/* Counts the crash sets that a job's buddies survive. Only the first line of the input is read, a job in hexadecimal digits. For each
+   f from 1 to the number of machines a line goes to `out`: f, the number of sets of f machines, and the number of those in which no
+   machine stands together with its buddy, in decimal, with single blanks. A first line that is no acceptable job gets its number
+   alone (01, 02 or 03, as at the head of a list), an empty input nothing. Gives the number of bytes written. Where out_len is below
+   SATUPHIR_SURVIVORS_SPACE nothing is written, and the answer is SATUPHIR_NO_ROOM, whatever the input. Both places as above. */
+size_t satuphir_survivors(const unsigned char *input, size_t input_len, unsigned char *out, size_t out_len);
 
 #ifdef __cplusplus
 }
