@@ -2,6 +2,7 @@
 
 mod common;
 
+use common::documents::{blocks, document, flowing, plain, root, rows};
 use common::run::{fed, fresh, run};
 use explained::names::joined;
 use explained::notation::{decode, encode};
@@ -13,36 +14,6 @@ use std::collections::BTreeSet;
 use std::fs;
 use std::path::{Path, PathBuf};
 use std::process::Command;
-
-fn root() -> PathBuf {
-    Path::new(env!("CARGO_MANIFEST_DIR")).join("..")
-}
-
-fn document(name: &str) -> String {
-    fs::read_to_string(root().join(name)).expect("a document")
-}
-
-/// The fenced blocks of a language.
-fn blocks<'a>(text: &'a str, language: &str) -> Vec<&'a str> {
-    let start = format!("```{language}\n");
-    let rest = text.split(&start).skip(1);
-    rest.map(|block| &block[..block.find("```").expect("an end")])
-        .collect()
-}
-
-/// The cells of the rows of all tables, without their code marks.
-fn rows(text: &str) -> Vec<Vec<String>> {
-    let rows = text
-        .lines()
-        .filter(|line| line.starts_with("| ") && !line.starts_with("|---"));
-    let cell = |cell: &str| cell.trim().to_string();
-    rows.map(|row| row.trim_matches('|').split(" | ").map(cell).collect())
-        .collect()
-}
-
-fn plain(cell: &str) -> String {
-    cell.replace('`', "")
-}
 
 /// The list that README writes down.
 fn own_list() -> String {
@@ -159,13 +130,6 @@ fn the_reasons_in_readmes_table() {
     for (_, words) in told {
         assert!(row.contains(words), "README does not say: {words}");
     }
-}
-
-/// A document's words, wherever its lines end.
-fn flowing(name: &str) -> String {
-    let text = document(name);
-    let words = text.split_whitespace().filter(|word| *word != "#");
-    words.collect::<Vec<_>>().join(" ")
 }
 
 /// What the bare program cannot do is said where it is named.
@@ -371,6 +335,7 @@ fn names_of_files() {
     for (name, from) in [
         ("README.md", "."),
         ("docs/RULES.md", "."),
+        ("docs/SURVIVORS.md", "."),
         ("explained/README.md", "explained"),
         ("examples/README.md", "examples"),
     ] {

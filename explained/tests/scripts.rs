@@ -2,6 +2,7 @@
 
 mod common;
 
+use common::documents::document;
 use common::folder;
 use common::run::{fresh, result};
 use std::fs;
@@ -26,7 +27,7 @@ fn unbuilt(name: &str, rt: &str) -> (PathBuf, String) {
     for folder in ["tools", "bin", "crates"].iter().chain(&built) {
         fs::create_dir_all(root.join(folder)).expect("a folder");
     }
-    for script in ["sitting.sh", "satuphir"] {
+    for script in ["sitting.sh", "satuphir", "survivors-table.sh"] {
         fs::copy(tools().join(script), root.join("tools").join(script)).expect("a copy");
     }
     for folder in built {
@@ -136,6 +137,39 @@ fn sitting_looks_at_its_list_first() {
         let (status, out, error) = run_there(&root, &path, &words);
         assert_eq!((status, out.as_str(), error.as_str()), (2, "", message));
     }
+}
+
+/// The table is made of a program's lines, and is the one in the document. The program is built where it is not there.
+#[test]
+fn the_table_of_crash_sets() {
+    let built =
+        "[ \"$*\" = 'check survivors' ] && mkdir -p target/bin && cp bin/survivors target/bin";
+    let (root, path) = unbuilt("crash-sets", built);
+    let command = env!("CARGO_BIN_EXE_satuphir");
+    put_script(
+        &root.join("bin/survivors"),
+        &format!("exec '{command}' survivors -"),
+    );
+    let text = document("docs/SURVIVORS.md");
+    let (_, table) = text.split_once("\n| layout |").expect("a table");
+    let (table, _) = table.split_once("\n\n").expect("an end");
+    let table = format!("| layout |{table}\n");
+    let words = ["tools/survivors-table.sh"];
+    let said = "proving and building the program, once ...\n";
+    assert_eq!(
+        run_there(&root, &path, &words),
+        (0, table.clone(), said.to_string())
+    );
+    // The second time it is there.
+    assert_eq!(run_there(&root, &path, &words), (0, table, String::new()));
+    // A program that could not read or write ends without a word.
+    put_script(&root.join("target/bin/survivors"), "echo 1 2 2");
+    let (status, _, error) = run_there(&root, &path, &words);
+    let message = "survivors-table.sh: not 2 lines for the job 0102010201010000\n";
+    assert_eq!((status, error.as_str()), (1, message));
+    let (status, out, error) = run_there(&root, &path, &[words[0], "x"]);
+    let usage = "usage: survivors-table.sh\n";
+    assert_eq!((status, out.as_str(), error.as_str()), (2, "", usage));
 }
 
 /// Runs the script over the command that is built, with this redirection.

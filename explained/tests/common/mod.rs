@@ -3,6 +3,7 @@
 // Not every test needs all of it.
 #![allow(dead_code)]
 
+pub mod documents;
 pub mod run;
 pub mod steps;
 pub mod svg;
