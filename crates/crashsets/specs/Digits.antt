@@ -1,5 +1,5 @@
 -- Numbers of one and two digits, the line of f, and the lines of a job as the loop writes them.
-use Rattle.lists.specs.Basics.{_≡_, refl, sym, ap, _∙_, Bool, List, [], _∷_, _++_, append-nil, append-assoc, ℕ, zero, suc, _+_, _-_, _*_, _^_, _/_, _%_, _<_, _≤_, arith, length, take, drop, length-append}
+use Rattle.lists.specs.Basics.{_≡_, refl, sym, _∙_, List, [], _∷_, _++_, append-nil, append-assoc, ℕ, zero, suc, _+_, _-_, _*_, _^_, _/_, _%_, _<_, _≤_, arith, length, length-append}
 use Rattle.lists.specs.Basics.{lt-ltb, le-ltb, inl, inr}
 use Rattle.lists.specs.{Lists.gather, Counting.{counting, counting-next, counting-past}, Tests.lt?}
 use Rattle.arrays.specs.{Copies.{put-at, put-put, Wrote, wrote-put}, Loops.tally-le}

@@ -1,8 +1,8 @@
 -- What readers of the counts may expect of them: all sets are counted, as many as the binomial says; one crash is survived, and the crash
 -- of all machines is not.
-use Rattle.lists.specs.Basics.{_≡_, refl, sym, ap, fun-ext, _∙_, Bool, true, false, cond, not, List, [], _∷_, _++_, map, here, there, inl, inr, ℕ, zero, suc, _+_, _*_, _^_, _<_, _≤_, arith, length}
+use Rattle.lists.specs.Basics.{_≡_, refl, sym, ap, fun-ext, _∙_, Bool, true, false, cond, not, List, [], _∷_, here, there, inl, inr, ℕ, zero, suc, _+_, _^_, _≤_, arith, length}
 use Rattle.lists.specs.Basics.{eq-eqb, ne-eqb, eqb, eqb-true, not-true, length-append, length-map, pow-suc}
-use Rattle.lists.specs.{Tests.{either, eq?, true-not-false}, Lists.{_∈_, All, allb, allb-true, anyb, anyb-true, keep, keep-append, keep-map, keep-mem, keep-all, keep-none, mem-map, map-mem}}
+use Rattle.lists.specs.{Tests.{either, eq?, true-not-false}, Lists.{_∈_, allb, allb-true, anyb, anyb-true, keep, keep-append, keep-map, keep-mem, keep-all, keep-none, mem-map, map-mem}}
 use Rattle.protocol.specs.{Parts.Job, Job.{machines-of, job-in-range, job-of}, Recovery.Frames.Job.{machine-known, job-ok}}
 use Rattle.crashsets.specs.{CrashSets.{sets, has-size, stands, survives, total, survived}, Machines.{some, few, buddy-low, buddy-high}}
 use mathlib.Core.List.{Memᴰ·append-left, Memᴰ·append-right, List·Memᴰ·append-cases, List·Memᴰ·cases-cons, List·Memᴰ·not-nil}

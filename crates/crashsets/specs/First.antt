@@ -1,13 +1,13 @@
 -- What the first line of an input gets, by the frame that it is: before any job nothing but a job is accepted.
-use Rattle.lists.specs.Basics.{_≡_, refl, sym, ap, _∙_, true, false, cond, List, [], _∷_, _++_, append-assoc, ℕ, _+_, arith, length, length-append, take, drop}
+use Rattle.lists.specs.Basics.{_≡_, refl, sym, ap, _∙_, cond, List, [], _∷_, _++_, append-assoc, ℕ, zero, suc, _+_, _<_, arith, length, length-append, take, drop}
 use Rattle.lists.specs.{Tests.either, Questions.put-all}
-use Rattle.protocol.specs.{declared.Answer.the-variants.Refused, Parts.{State, start, no-job, job-machines}, Setters.with-status, Restart.{settle-machine, settle-all, settle, is-done}}
+use Rattle.protocol.specs.{declared.Answer.the-variants.Refused, Parts.{State, start, no-job, job-machines}, Restart.{settle-machine, settle-all, settle, is-done}}
 use Rattle.protocol.specs.{Frames.{Line, frame}, Lines.{newline, lines, line}, Job.{job-in-range, job-of, begin}, Step.{step, step-frame, play, outcome, accept, judged}}
 use Rattle.protocol.specs.Questions.{questions, job-questions, inject-questions, deliver-questions, work-questions, checkpoint-questions, crash-questions, restart-questions, show-questions, withdraw-questions}
-use Rattle.frames.specs.{Decode.decoded, Read.{read-as, meaning}, ReadLaws.frame-meaning, declared.Frame.Frame}
+use Rattle.frames.specs.{Decode.decoded, Read.{read-as, meaning}, ReadLaws.frame-meaning, LongLine.cut-line, declared.Frame.Frame}
 use Rattle.frames.specs.{declared.Frame.the-variants.{Garbled, Job, Inject, Deliver, Work, Checkpoint, Crash, Restart, Show, Withdraw}}
 use Rattle.arrays.specs.Copies.{Wrote}
-use Rattle.lines.specs.LineEnd.{line-end, first-line}
+use Rattle.lines.specs.LineEnd.{line-end, line-part, first-line, first-cut}
 use Rattle.crashsets.specs.CrashSets.{counts, report, reported, of-first, survivors}
 
 -- "its number alone"
@@ -81,7 +81,17 @@ unfolding survivors of-first lines
 empty-input [] room e = record { count = refl; bytes = refl }
 empty-input (b ∷ i) room e = absurd (omega arith)
 
-pub some-input : (input : List ℕ) → (length input ≡ 0 → ⊥) → (end : ℕ) → end ≡ line-end input → (room out : List ℕ) (w : ℕ) → Wrote room (reported (step start (take end input))) w out → Wrote room (survivors input) w out
+first-gets : (b : ℕ) (i : List ℕ) → survivors (b ∷ i) ≡ reported (step start (line-part (b ∷ i)))
 unfolding survivors of-first
+first-gets b i = rw (first-line b i .1)
+
+pub some-input : (input : List ℕ) → (length input ≡ 0 → ⊥) → (end : ℕ) → end ≡ line-end input → (room out : List ℕ) (w : ℕ) → Wrote room (reported (step start (take end input))) w out → Wrote room (survivors input) w out
 some-input [] n end e room out w o = absurd (n refl)
-some-input (b ∷ i) n end e room out w o = rw (first-line b i .1, ← e) o
+some-input (b ∷ i) n end e room out w o = rw (first-gets b i, ← e) o
+
+-- The first 2,047 bytes are enough, and so is any greater part: a program may stop reading there.
+pub cut-input : (n : ℕ) (input : List ℕ) → 2046 < n → survivors (take n input) ≡ survivors input
+cut-input zero input h = absurd (omega arith)
+cut-input (suc n) [] h = refl
+cut-input (suc n) (b ∷ i) h =
+    first-gets b (take n i) ∙ ap (λ l. reported (step start l)) (first-cut (suc n) (b ∷ i)) ∙ ap reported (cut-line start (suc n) (line-part (b ∷ i)) h) ∙ sym (first-gets b i)

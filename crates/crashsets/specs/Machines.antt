@@ -1,6 +1,6 @@
 -- The machines of an accepted job, and their buddies.
 use Rattle.lists.specs.Basics.{_≡_, _∙_, true, List, ℕ, _*_, _^_, _%_, _≤_, arith, le-leb}
-use Rattle.protocol.specs.{Parts.Job, Frames.between, Job.{machines-of, job-in-range, job-of, has-machine}}
+use Rattle.protocol.specs.{Frames.between, Job.{machines-of, job-in-range, job-of, has-machine}}
 use Rattle.jobline.specs.JobLaws.{in-range}
 use native.Mathlib.Nat.{pow-le-pow-right}
 use lib.Pow.{shl-exact}

@@ -1,5 +1,5 @@
 -- The loop over the words: how many of those passed are counted, and how many of these are survived.
-use Rattle.lists.specs.Basics.{_≡_, sym, ap, _∙_, Bool, true, false, _&&_, and-false, ℕ, _+_, _-_, _^_, _<_, _≤_, arith, eqb, eq-eqb, ne-eqb, length}
+use Rattle.lists.specs.Basics.{_≡_, sym, _∙_, true, false, ℕ, _+_, _-_, _^_, _<_, _≤_, arith, eq-eqb, ne-eqb, length}
 use Rattle.protocol.specs.Parts.{Job}
 use Rattle.arrays.specs.Loops.{tally, tally-hit, tally-miss, tally-end}
 use Rattle.crashsets.specs.{CrashSets.{has-size, survives, total, survived}, Words.{set-of, size-ones, is-counted, is-survived, total-words, survived-words}}

@@ -1,6 +1,6 @@
 -- No frame has more than 1,023 bytes: a line of more than 2,046 characters is refused with 1.
-use Rattle.lists.specs.Basics.{true, not, _&&_, List, [], _∷_, none, _≡_, refl, ℕ, zero, suc, _<_, _≤_, _%_, arith, leb-true, eqb-true, eqb, leb, length, getD}
-use Rattle.lists.specs.{Lists.allb, Tests.{either, and-l, and-r}}
+use Rattle.lists.specs.Basics.{true, not, _&&_, inl, inr, List, [], _∷_, none, _≡_, refl, sym, ap, _∙_, ℕ, zero, suc, _<_, _≤_, _%_, arith, leb-true, eqb-true, eqb, leb, length, getD, take, length-take, take-all}
+use Rattle.lists.specs.{Lists.allb, Tests.{either, lt?, and-l, and-r}}
 use Rattle.protocol.specs.{declared.Answer.the-variants.Refused, Parts.State}
 use Rattle.protocol.specs.{Frames.{Line, least, least-length, exact-length, is-whole, frame-of, frame}, Step.{step, step-frame}}
 use Rattle.frames.specs.{Decode.{decoded, is-hexadecimal}, DecodeLaws.{length-decoded, bytes-decoded}, CodeLaws.coded-at}
@@ -41,3 +41,10 @@ module _ (l : Line) where
 pub long-line : (s : State) (l : Line) → 2046 < length l → step s l ≡ record { state = s; answer = Refused 1 }
 unfolding step step-frame
 long-line s l h = rw (no-frame l h)
+
+-- so the first 2,047 characters of a line, or more, are judged as the line is
+pub cut-line : (s : State) (n : ℕ) (l : Line) → 2046 < n → step s (take n l) ≡ step s l
+cut-line s n l long = elim (lt? n (length l)) [
+  | inl h ↦ long-line s (take n l) (omega (arith, length-take n l)) ∙ sym (long-line s l (omega arith))
+  | inr h ↦ ap (step s) (take-all n l h)
+]

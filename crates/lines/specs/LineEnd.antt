@@ -1,5 +1,5 @@
 -- Where the first line of an input ends.
-use Rattle.lists.specs.Basics.{_≡_, refl, ap, _∙_, List, [], _∷_, ℕ, suc, _+_, _≤_, _<_, add-one, arith, eq-eqb, ne-eqb, eqb, length, take, drop, getD, drop-of-length-le, drop-cons}
+use Rattle.lists.specs.Basics.{_≡_, refl, ap, List, [], _∷_, ℕ, zero, suc, _+_, _≤_, _<_, add-one, arith, eq-eqb, ne-eqb, eqb, length, take, drop, getD, drop-of-length-le, drop-cons}
 use Rattle.lists.specs.Tests.{either}
 use Rattle.arrays.specs.Place.{place, place-le}
 use Rattle.protocol.specs.{Frames.Line, Lines.{newline, extend, lines}}
@@ -37,3 +37,10 @@ first-line b [] = either (eqb b newline) (λ e. ([], rw e)) (λ e. ([], rw e))
 first-line b (c ∷ i) = either (eqb b newline)
     (λ e. (lines (c ∷ i), rw e))
     (λ e. let (rest, h) = first-line c i in (rest, rw e (ap (extend b) h)))
+
+-- of an input that is cut the first line is cut
+pub first-cut : (n : ℕ) (i : List ℕ) → line-part (take n i) ≡ take n (line-part i)
+unfolding line-end place
+first-cut zero i = refl
+first-cut (suc n) [] = refl
+first-cut (suc n) (b ∷ i) = either (eqb b newline) (λ e. rw e) (λ e. rw e (ap (b ∷_) (first-cut n i)))

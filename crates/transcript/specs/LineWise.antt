@@ -1,6 +1,6 @@
 -- Reading line by line is reading byte by byte: up to the next newline, and past it.
-use Rattle.lists.specs.Basics.{false, List, [], _∷_, _++_, append-assoc, append-nil, _≡_, refl, _∙_, ℕ, suc, _+_, _-_, _≤_, _<_, add-one, arith, le-leb, lt-leb}
-use Rattle.lists.specs.Basics.{eq-eqb, ne-eqb, eqb, length, take, drop, getD, length-append, drop-of-length-le, drop-cons, drop-drop, take-add}
+use Rattle.lists.specs.Basics.{false, List, [], _∷_, _++_, append-assoc, append-nil, _≡_, refl, _∙_, ℕ, suc, _+_, _-_, _≤_, _<_, arith, le-leb, lt-leb}
+use Rattle.lists.specs.Basics.{eqb, length, take, drop, length-append, drop-drop, take-add}
 use Rattle.lists.specs.Tests.{either}
 use Rattle.arrays.specs.Place.{place}
 use Rattle.lines.specs.LineEnd.{line-end, line-part}

@@ -1,9 +1,9 @@
 -- An input in pieces is the whole input, and reading it byte by byte gives its transcript.
-use Rattle.lists.specs.Basics.{true, false, cond, List, [], _∷_, _++_, append-assoc, append-nil, _≡_, refl, sym, ap, _∙_, ℕ, zero, suc, arith, eqb, length, take, length-take}
-use Rattle.lists.specs.Basics.{take-all, take-nil, inl, inr}
-use Rattle.lists.specs.Tests.{either, lt?}
+use Rattle.lists.specs.Basics.{true, false, cond, List, [], _∷_, _++_, append-assoc, append-nil, _≡_, refl, sym, ap, _∙_, ℕ, zero, suc, arith, eqb, take}
+use Rattle.lists.specs.Basics.{take-nil}
+use Rattle.lists.specs.Tests.{either}
 use Rattle.protocol.specs.{Parts.{State, start}, Frames.Line, Lines.{newline, extend, lines, line, print}, Step.{step, answers-from, answers}}
-use Rattle.frames.specs.LongLine.{long-line}
+use Rattle.frames.specs.LongLine.{cut-line}
 use Rattle.transcript.specs.Reading.{Reading, line-room, within, beginning, printed, read-byte, byte-output, read-all, output, is-empty, last-output}
 
 -- ---- pieces
@@ -49,10 +49,7 @@ take-more (suc n) [] p = refl
 take-more (suc n) (x ∷ a) p = ap (x ∷_) (take-more n a p)
 
 pub kept-step : (s : State) (l : Line) → step s (take line-room l) ≡ step s l
-kept-step s l = elim (lt? line-room (length l)) [
-  | inl h ↦ long-line s (take line-room l) (unfold line-room in omega (arith, length-take line-room l)) ∙ sym (long-line s l (unfold line-room in omega arith))
-  | inr h ↦ ap (step s) (take-all line-room l h)
-]
+kept-step s l = cut-line s line-room l (unfold line-room in omega arith)
 
 pub kept-empty : (s : State) (l : Line) → is-empty (within s l .line) ≡ is-empty l
 unfolding within is-empty line-room

@@ -1,5 +1,5 @@
 -- An answer's line with its newline has at most 16 bytes.
-use Rattle.lists.specs.Basics.{List, [], _∷_, _++_, _≡_, refl, sym, ap, _∙_, ℕ, zero, suc, _+_, _-_, _≤_, _/_, arith, length, take, drop, append-nil, append-assoc, length-append, length-drop, drop-drop, take-all, drop-of-length-le}
+use Rattle.lists.specs.Basics.{List, [], _∷_, _++_, _≡_, refl, sym, _∙_, ℕ, zero, suc, _+_, _-_, _≤_, _/_, arith, length, take, drop, append-assoc, length-append}
 use Rattle.protocol.specs.{declared.Rule.the-variants.Other, declared.Answer.Answer, declared.Answer.the-variants.{Accepted, Shown, Lost, Refused}, Lines.{newline, hexadecimal, two-decimals, line-01, letter, ending, line}}
 use Rattle.arrays.specs.Copies.{put-at, put-part}
 use Rattle.transcript.specs.Reading.{answer-room, printed}

@@ -1,5 +1,5 @@
 -- `read_line` is safe and ends: each turn reads at least a byte, or it is the last.
-use Rattle.lists.specs.Basics.{_≡_, _∙_, _-_, _≤_, length, needs}
+use Rattle.lists.specs.Basics.{_≡_, _-_, _≤_, length, needs}
 use Rattle.survivors.proofs.read_line.Statement.{statement}
 use Rattle.survivors.proofs.read_line.Tie as tie
 

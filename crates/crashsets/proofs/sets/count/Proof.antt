@@ -1,5 +1,5 @@
 -- `count`: the words in turn. The invariant: those passed are counted.
-use Rattle.lists.specs.Basics.{_≡_, sym, _∙_, ap, refl, _+_, _-_, _*_, _^_, _%_, _<_, _≤_, arith, needs}
+use Rattle.lists.specs.Basics.{_≡_, sym, _∙_, _-_, _^_, _≤_, arith, needs}
 use Rattle.protocol.specs.Job.{machines-of, job-of}
 use Rattle.frames.specs.Decode.{decoded}
 use Rattle.crashsets.specs.{Machines.{few, words-end}, Tallies.{Passed, none-passed, other-size, one-survived, one-lost, all-passed}}
