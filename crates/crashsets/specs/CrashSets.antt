@@ -34,7 +34,7 @@ unfoldable pub decimals : ℕ → ℕ → List ℕ
 decimals zero n = (48 + n) ∷ []
 decimals (suc k) n = cond (ltb n 10) ((48 + n) ∷ []) (decimals k (n / 10) ++ ((48 + n % 10) ∷ []))
 
--- no number above 0 has more digits than itself
+-- a number above 0 has at most as many digits as itself
 unfoldable pub decimal : ℕ → List ℕ
 decimal n = decimals n n
 

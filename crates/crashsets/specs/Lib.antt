@@ -4,6 +4,7 @@ pub mod Cases
 pub mod Machines
 pub mod Facts
 pub mod Words
+pub mod Together
 pub mod Tallies
 pub mod Digits
 pub mod First

@@ -14,7 +14,7 @@ use crate::sets::count;
 use frames::Frame;
 use protocol::Answer;
 
-pub mod sets;
+mod sets;
 
 // Room for all that is printed: six lines of eight bytes.
 pub const ROOM: usize = 48;

@@ -3,7 +3,7 @@ use Rattle.lists.specs.Basics.{_≡_, sym, _∙_, _≤_, arith, needs, not}
 use Rattle.lists.specs.Lists.{allb}
 use Rattle.protocol.specs.Job.{machines-of, job-of}
 use Rattle.frames.specs.Decode.{decoded}
-use Rattle.crashsets.specs.{CrashSets.{survives, stands}, Words.{set-of, meets, passes}}
+use Rattle.crashsets.specs.{CrashSets.{survives, stands}, Words.set-of, Together.{meets, passes}}
 use Rattle.crashsets.proofs.sets.survives.Statement.{statement}
 use Rattle.crashsets.proofs.sets.survives.Tie as tie
 
