@@ -52,18 +52,34 @@ pub struct Difference {
 
 impl fmt::Display for Difference {
     fn fmt(&self, f: &mut fmt::Formatter<'_>) -> fmt::Result {
-        let rule = "!".repeat(72);
-        writeln!(f, "{rule}")?;
-        writeln!(f, "!!! THE LINES DIFFER AT FRAME {}", self.number)?;
-        writeln!(f, "!!! frame:                 {}", self.frame)?;
-        writeln!(f, "!!! proved engine:         {}", self.engine)?;
-        writeln!(f, "!!! second implementation: {}", self.second)?;
-        writeln!(
+        let what = format!("THE LINES DIFFER AT FRAME {}", self.number);
+        let both = [&self.engine, &self.second];
+        say_loudly(
             f,
-            "!!! One of them is wrong. Nothing after this frame is explained."
-        )?;
-        writeln!(f, "{rule}")
+            &what,
+            &self.frame,
+            both,
+            "Nothing after this frame is explained.",
+        )
     }
+}
+
+/// That the engine and the second implementation differ, between two rules so that nobody overlooks it.
+pub fn say_loudly(
+    f: &mut fmt::Formatter<'_>,
+    what: &str,
+    frame: &str,
+    [engine, second]: [&String; 2],
+    then: &str,
+) -> fmt::Result {
+    let rule = "!".repeat(72);
+    writeln!(f, "{rule}")?;
+    writeln!(f, "!!! {what}")?;
+    writeln!(f, "!!! frame:                 {frame}")?;
+    writeln!(f, "!!! proved engine:         {engine}")?;
+    writeln!(f, "!!! second implementation: {second}")?;
+    writeln!(f, "!!! One of them is wrong. {then}")?;
+    writeln!(f, "{rule}")
 }
 
 /// Shows each step to `see`, up to the first line that differs from the engine's.

@@ -3,7 +3,7 @@
 use crate::hints::hints;
 use crate::lines::{escaped, shown};
 use crate::notation::one_line;
-use crate::play::{play, Step};
+use crate::play::{play, say_loudly, Step};
 use crate::words::refusal;
 use reference::answer::{Answer, Question};
 use reference::reader::answer_all;
@@ -20,14 +20,9 @@ pub struct Difference {
 
 impl fmt::Display for Difference {
     fn fmt(&self, f: &mut fmt::Formatter<'_>) -> fmt::Result {
-        let rule = "!".repeat(72);
-        writeln!(f, "{rule}")?;
-        writeln!(f, "!!! THE COUNTS OF CRASH SETS DIFFER")?;
-        writeln!(f, "!!! frame:                 {}", self.frame)?;
-        writeln!(f, "!!! proved engine:         {}", self.engine)?;
-        writeln!(f, "!!! second implementation: {}", self.second)?;
-        writeln!(f, "!!! One of them is wrong. No count is printed.")?;
-        writeln!(f, "{rule}")
+        let what = "THE COUNTS OF CRASH SETS DIFFER";
+        let both = [&self.engine, &self.second];
+        say_loudly(f, what, &self.frame, both, "No count is printed.")
     }
 }
 
