@@ -83,10 +83,17 @@ module _ (row : List Processing) (before sent : List ℕ) (g : Good row (length 
   step k i j s (inl e) = rw e s
   step k i j s (inr r) = (omega (arith, s .0, r .0), through (r .1) (s .1))
 
-  pub reach-chain : (k i : ℕ) → i < n → Reach before sent k i → (k ≡ i) ⊎ ((k < i) × Chain row (the k) (the i))
-  reach-chain k i l (itself e) = inl (sym e)
-  reach-chain k i l (by-before j e r) = let s = before-chain i j l e in inr (step k i j s (reach-chain k j (omega (arith, s .0)) r))
-  reach-chain k i l (by-sender j e r) = let s = sender-chain i j l e in inr (step k i j s (reach-chain k j (omega (arith, s .0)) r))
+  back : (k i : ℕ) → i < n → Reach before sent k i → (k ≡ i) ⊎ ((k < i) × Chain row (the k) (the i))
+  back k i l (itself e) = inl (sym e)
+  back k i l (by-before j e r) = let s = before-chain i j l e in inr (step k i j s (back k j (omega (arith, s .0)) r))
+  back k i l (by-sender j e r) = let s = sender-chain i j l e in inr (step k i j s (back k j (omega (arith, s .0)) r))
+
+  pub reach-chain : (a b : Name) (i j : ℕ) → j < n → Is row i a → Is row j b → Reach before sent i j → (i ≡ j) ⊎ Chain row a b
+  unfolding name
+  reach-chain a b i j l is js r = elim (back i j l r) [
+    | inl e ↦ inl e
+    | inr c ↦ inr (rw (same-name a (the i) (sym (is .0)) (sym (is .1)), same-name b (the j) (sym (js .0)) (sym (js .1))) (c .1))
+  ]
 
   -- ---- steps of a chain are links
   one-below : (j c t : ℕ) → j < n → 1 ≤ t → Is row j (c, suc t) → (k : ℕ) × (k < j) × (getD before j 0 ≡ suc k) × Is row k (c, t)

@@ -2,3 +2,9 @@
 pub mod Precedes
 pub mod Rows
 pub mod Chains
+pub mod Visits
+pub mod Links
+pub mod Reading
+pub mod Answers
+pub mod Tables
+pub mod Steps

@@ -1,6 +1,6 @@
 -- What the rules give where the first n records of a row are good: a chare's processings stand in the order of their TNs, each once.
 use Rattle.lists.specs.Basics.{_≡_, refl, sym, ap, _∙_, Bool, true, false, cond, _&&_, _||_, List, [], _∷_, _++_, _⊎_, inl, inr, ℕ, zero, suc, _+_, _-_, _<_, _≤_, arith}
-use Rattle.lists.specs.Basics.{eqb, leb, ltb, eqb-true, eq-eqb, ne-eqb, leb-true, length, take, getD, take-suc, getD-take, length-take-le, length-append}
+use Rattle.lists.specs.Basics.{eqb, leb, ltb, eqb-true, eq-eqb, ne-eqb, leb-true, ltb-true, length, take, getD, take-suc, getD-take, length-take-le, length-append}
 use Rattle.lists.specs.{Tests.{either, eq?, lt?, and-l, and-r, and-i, and4, or-cases, or-l, or-r, true-not-false}, Lists.{anyb, keep, keep-append}}
 use Rattle.precedes.specs.{declared.Processing.Processing, Precedes.{Name, name, origin, named, stands, count, in-range, sender-known, tn-next, has-room, good}}
 
@@ -94,6 +94,10 @@ module _ (row : List Processing) (i : ℕ) (g : good (take i row) (rec row i) �
   rules : (has-room (take i row) ≡ true) × (in-range (rec row i) ≡ true) × (sender-known (take i row) (rec row i) ≡ true) × (tn-next (take i row) (rec row i) ≡ true)
   unfolding good
   rules = and4 _ _ _ _ g
+
+  pub good-room : i ≤ length row → i < 512
+  unfolding has-room
+  good-room l = omega (arith, ltb-true (length (take i row)) 512 (rules .0), length-take-le i row l)
 
   pub good-tn : rec row i .tn ≡ count (rec row i .chare) (take i row) + 1
   unfolding tn-next

@@ -1,3 +1,15 @@
+// Document 02, Point 12: what came before what.
+ghost use mathlib.Core.Path.{_≡_};
+ghost use Rattle.precedes.specs.Precedes.{Right};
+ghost use Rattle.precedes.specs.Tables.{empty, pushed, pushed-all, held};
+use crate::links::find;
+use crate::links::link;
+use crate::past::visit;
+
+mod links;
+mod past;
+
+// One processing: its chare and TN, the message's sender, and the sender's TN at which the message was sent (0 and 0 for the desk).
 #[repr(C)]
 pub struct Processing {
     pub chare: u8,
@@ -13,7 +25,83 @@ pub enum Answer {
     No,
 }
 
+// The first 512 records of a row; a length of 513 says that the row has more.
 pub struct Table {
     pub records: [Processing; 512],
     pub len: u16,
+}
+
+fn none() -> Table
+    ensures { λ r. ⌜ r ≡ empty ⌝ }
+{
+    let p = Processing {
+        chare: 0,
+        tn: 0,
+        sender: 0,
+        sender_tn: 0,
+    };
+    Table {
+        records: [p; 512],
+        len: 0,
+    }
+}
+
+fn push(t: Table, p: Processing) -> Table
+    ensures { λ r. ⌜ r ≡ pushed t p ⌝ }
+{
+    let at = t.len;
+    if 512 < at {
+        return t;
+    }
+    let mut next = t;
+    next.len = at + 1;
+    if at == 512 {
+        return next;
+    }
+    next.records[at as usize] = p;
+    next
+}
+
+fn load(row: &[Processing], t: Table) -> Table
+    ensures { λ r. ⌜ r ≡ pushed-all t (now (row .entry)) ⌝ }
+{
+    let mut out = t;
+    let mut i: usize = 0;
+    while i < row.len() {
+        out = push(out, row[i]);
+        i = i + 1;
+    }
+    out
+}
+
+fn decide(t: Table, chare: u8, tn: u16, later_chare: u8, later_tn: u16) -> Answer
+    ensures { λ r. ⌜ Right (held t) (chare, tn) («later_chare», «later_tn») r ⌝ }
+{
+    let mut at = [0u16; 6144];
+    let mut before = [0u16; 512];
+    let mut sent = [0u16; 512];
+    let bad = link(t, &mut at, &mut before, &mut sent);
+    if 0 < bad {
+        return Answer::Bad(bad);
+    }
+    let first = find(&at, chare, tn);
+    let second = find(&at, later_chare, later_tn);
+    if first == 0 || second == 0 {
+        return Answer::Unknown;
+    }
+    let mut seen = [false; 512];
+    visit(&before, &sent, &mut seen, second);
+    if first != second && seen[first as usize - 1] {
+        return Answer::Yes;
+    }
+    Answer::No
+}
+
+// Does chare's processing with TN tn precede later_chare's with TN later_tn?
+pub fn precedes(row: &[Processing], chare: u8, tn: u16, later_chare: u8, later_tn: u16) -> Answer
+    ensures { λ r. ⌜ Right (now (row .entry)) (chare, tn) («later_chare», «later_tn») r ⌝ }
+{
+    let start = none();
+    let t = load(row, start);
+    decide(t, chare, tn, later_chare, later_tn)
 }
