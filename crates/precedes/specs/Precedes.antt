@@ -68,3 +68,10 @@ Right row a b (Bad place) = (0 < place) × (bad-place row ≡ place)
 Right row a b Unknown = (bad-place row ≡ 0) × ((stands a row && stands b row) ≡ false)
 Right row a b Yes = (bad-place row ≡ 0) × ((stands a row && stands b row) ≡ true) × Chain row a b
 Right row a b No = (bad-place row ≡ 0) × ((stands a row && stands b row) ≡ true) × (Chain row a b → ⊥)
+
+-- each answer as one number, for callers in C
+unfoldable pub number : Answer → ℕ
+number (Bad place) = 1000 + place
+number Unknown = 2
+number Yes = 1
+number No = 0

@@ -1,6 +1,6 @@
 // Document 02, Point 12: what came before what.
 ghost use mathlib.Core.Path.{_≡_};
-ghost use Rattle.precedes.specs.Precedes.{Right};
+ghost use Rattle.precedes.specs.Precedes.{Right, number};
 ghost use Rattle.precedes.specs.Tables.{empty, pushed, pushed-all, held};
 use crate::links::find;
 use crate::links::link;
@@ -104,4 +104,16 @@ pub fn precedes(row: &[Processing], chare: u8, tn: u16, later_chare: u8, later_t
     let start = none();
     let t = load(row, start);
     decide(t, chare, tn, later_chare, later_tn)
+}
+
+// An answer as callers in C get it.
+pub fn number(a: Answer) -> u32
+    ensures { λ r. ⌜ r ≡ number a ⌝ }
+{
+    match a {
+        Answer::Bad(place) => 1000 + place as u32,
+        Answer::Unknown => 2,
+        Answer::Yes => 1,
+        Answer::No => 0,
+    }
 }

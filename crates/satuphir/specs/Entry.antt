@@ -4,6 +4,7 @@ use Rattle.transcript.specs.{View.{enough, whole-output, Transcribed}, declared
 use Rattle.protocol.specs.Step.{answers}
 use Rattle.arrays.specs.Copies.{Wrote}
 use Rattle.crashsets.specs.{CrashSets.survivors, Digits.ROOM}
+use Rattle.precedes.specs.{declared.Processing.Processing, declared.Answer.Answer, Precedes.{Name, Right, number}}
 
 -- the largest number of 64 bits: the buffer has no room for all answers
 abbrev pub no-room : ℕ
@@ -44,3 +45,9 @@ module _ (input room : List ℕ) where
   pub not-counted : length room < ROOM → Counted input room no-room room
   unfolding lines-written
   not-counted h = let e = lt-leb ROOM (length room) h in record { count = rw e; bytes = rw e }
+
+-- document 02, Point 12: the right answer, as a number
+pub record Answered (row : List Processing) (a b : Name) (r : ℕ) : Type 0 where
+  pub answer : Answer
+  pub right : Right row a b answer
+  pub as-number : r ≡ number answer
