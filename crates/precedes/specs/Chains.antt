@@ -40,6 +40,15 @@ rec-in [] i l = absurd (omega arith)
 rec-in (p ∷ row) zero l = here refl
 rec-in (p ∷ row) (suc i) l = there (rec-in row i (omega arith))
 
+pub named-in : (row : List Processing) (p : Processing) → p ∈ row → (i : ℕ) × (i < length row) × (rec row i ≡ p) × Is row i (name p)
+unfolding name
+named-in row p m = let r = at-rec row p m in (r .0, r .1, r .2, (ap (λ (q : Processing). q .chare) (r .2), ap (λ (q : Processing). q .tn) (r .2)))
+
+pub end-stands : {row : List Processing} {a b : Name} → Chain row a b → stands b row ≡ true
+end-stands (on-chare f s e t) = s
+end-stands {row} (through-sender p m s) = let r = named-in row p m in at-stands (name p) row (r .0) (r .1) (r .3)
+end-stands (through c d) = end-stands d
+
 module _ (row : List Processing) (before sent : List ℕ) (g : Good row (length row)) (links : Linked row (length row) before sent) where
   abbrev n : ℕ
   n = length row
@@ -128,19 +137,10 @@ module _ (row : List Processing) (before sent : List ℕ) (g : Good row (length 
         (omega (arith, p .1, same), by-sender (p .0) (p .2) (itself (sym same)))
   ]
 
-  named-in : (p : Processing) → p ∈ row → (j : ℕ) × (j < n) × (rec row j ≡ p) × Is row j (name p)
-  unfolding name
-  named-in p m = let r = at-rec row p m in (r .0, r .1, r .2, (ap (λ (q : Processing). q .chare) (r .2), ap (λ (q : Processing). q .tn) (r .2)))
-
-  end-stands : {a b : Name} → Chain row a b → stands b row ≡ true
-  end-stands (on-chare f s e t) = s
-  end-stands (through-sender p m s) = let r = named-in p m in at-stands (name p) row (r .0) (r .1) (r .3)
-  end-stands (through c d) = end-stands d
-
   pub chain-reach : {a b : Name} (i j : ℕ) → i < n → j < n → Is row i a → Is row j b → Chain row a b → (i < j) × Reach before sent i j
   chain-reach i j l h is js (on-chare {a = a} {b = b} f s e t) = down (b .1 - a .1 - 1) i j (a .0) (a .1) l h is (js .0 ∙ sym e, omega (arith, js .1))
   chain-reach i j l h is js (through-sender p m s) =
-      let r = named-in p m in
+      let r = named-in row p m in
       let same = once row n g j (r .0) (name p) h (r .1) js (r .3) in
       let e : rec row j ≡ p = rw same (r .2) in
       from-sender i j l h (rw e is)

@@ -8,3 +8,5 @@ pub mod Reading
 pub mod Answers
 pub mod Tables
 pub mod Steps
+pub mod Facts
+pub mod Cases

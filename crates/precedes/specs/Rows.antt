@@ -115,7 +115,7 @@ module _ (row : List Processing) (i : ℕ) (g : good (take i row) (rec row i) �
 
 -- ---- a chare's TNs among the first n records are 1 to their number, each once
 module _ (row : List Processing) (n : ℕ) (g : Good row n) where
-  above : (i : ℕ) (c : ℕ) → i < n → rec row i .chare ≡ c → rec row i .tn ≡ count c (take i row) + 1
+  pub above : (i : ℕ) (c : ℕ) → i < n → rec row i .chare ≡ c → rec row i .tn ≡ count c (take i row) + 1
   above i c l e = good-tn row i (g .1 i l) ∙ rw e
 
   pub is-low : (i k : ℕ) (m : Name) → i < k → k ≤ n → Is row i m → (1 ≤ m .1) × (m .1 ≤ count (m .0) (take k row))

@@ -18,6 +18,7 @@ pub struct Processing {
     pub sender_tn: u16,
 }
 
+// Bad has the place of the first bad record, counted from 1.
 pub enum Answer {
     Bad(u16),
     Unknown,
@@ -26,11 +27,12 @@ pub enum Answer {
 }
 
 // The first 512 records of a row; a length of 513 says that the row has more.
-pub struct Table {
+struct Table {
     pub records: [Processing; 512],
     pub len: u16,
 }
 
+// A table of no records.
 fn none() -> Table
     ensures { λ r. ⌜ r ≡ empty ⌝ }
 {
@@ -46,6 +48,7 @@ fn none() -> Table
     }
 }
 
+// One record more. The first past 512 is counted, so that the row is told to be too long and not cut.
 fn push(t: Table, p: Processing) -> Table
     ensures { λ r. ⌜ r ≡ pushed t p ⌝ }
 {
@@ -62,6 +65,7 @@ fn push(t: Table, p: Processing) -> Table
     next
 }
 
+// Takes a lent row into a table: what is asked of the table needs no reference to structs.
 fn load(row: &[Processing], t: Table) -> Table
     ensures { λ r. ⌜ r ≡ pushed-all t (now (row .entry)) ⌝ }
 {
@@ -74,6 +78,7 @@ fn load(row: &[Processing], t: Table) -> Table
     out
 }
 
+// The answer for the row that a table holds. `before` and `sent` have the two links of each record, `at` the place of each name.
 fn decide(t: Table, chare: u8, tn: u16, later_chare: u8, later_tn: u16) -> Answer
     ensures { λ r. ⌜ Right (held t) (chare, tn) («later_chare», «later_tn») r ⌝ }
 {
