@@ -1,5 +1,7 @@
 //! The proved engine, called through its static library. It shares no code with the second implementation.
 
+use crate::precedes::{Answer, Name, Processing};
+
 extern "C" {
     /// Writes the whole output for a whole input and returns its length, or the largest number where there is no room for it.
     fn satuphir_transcript(
@@ -17,6 +19,17 @@ extern "C" {
         out: *mut u8,
         out_len: usize,
     ) -> usize;
+
+    /// Does the processing `chare`, `tn` of the row precede the later one? 0 no, 1 yes, 2 one of them is not in the row, 1000 and the
+    /// place where the row is bad.
+    fn satuphir_precedes(
+        row: *const Processing,
+        row_len: usize,
+        chare: u8,
+        tn: u16,
+        later_chare: u8,
+        later_tn: u16,
+    ) -> u16;
 }
 
 /// No line is longer than this, newline included: a show has 14 digits and a letter.
@@ -56,4 +69,27 @@ pub fn survivors(input: &[u8]) -> Vec<u8> {
     let len = write_survivors(input, &mut out).expect("48 bytes are enough");
     out.truncate(len);
     out
+}
+
+/// The engine's answer whether the first processing precedes the second.
+pub fn precedes(row: &[Processing], first: Name, second: Name) -> Answer {
+    let ((chare, tn), (later_chare, later_tn)) = (first, second);
+    // Sound: the row is given with its own length, and the engine neither changes nor keeps it.
+    let code = unsafe {
+        satuphir_precedes(
+            row.as_ptr(),
+            row.len(),
+            chare,
+            tn,
+            later_chare,
+            later_tn,
+        )
+    };
+    match code {
+        0 => Answer::No,
+        1 => Answer::Yes,
+        2 => Answer::Unknown,
+        1001..=1513 => Answer::Bad(code - 1000),
+        _ => panic!("{code} is no answer"),
+    }
 }

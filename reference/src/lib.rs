@@ -10,6 +10,7 @@ pub mod job;
 pub mod limits;
 pub mod list;
 pub mod message;
+pub mod precedes;
 pub mod reader;
 pub mod recovery;
 pub mod seen;
