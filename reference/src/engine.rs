@@ -75,16 +75,8 @@ pub fn survivors(input: &[u8]) -> Vec<u8> {
 pub fn precedes(row: &[Processing], first: Name, second: Name) -> Answer {
     let ((chare, tn), (later_chare, later_tn)) = (first, second);
     // Sound: the row is given with its own length, and the engine neither changes nor keeps it.
-    let code = unsafe {
-        satuphir_precedes(
-            row.as_ptr(),
-            row.len(),
-            chare,
-            tn,
-            later_chare,
-            later_tn,
-        )
-    };
+    let code =
+        unsafe { satuphir_precedes(row.as_ptr(), row.len(), chare, tn, later_chare, later_tn) };
     match code {
         0 => Answer::No,
         1 => Answer::Yes,

@@ -57,6 +57,10 @@ impl Chains {
         Chains { names, after }
     }
 
+    pub fn is_bad(&self) -> bool {
+        self.after.is_err()
+    }
+
     pub fn answer(&self, first: Name, second: Name) -> Answer {
         let after = match &self.after {
             Ok(after) => after,
