@@ -43,6 +43,13 @@ pub mod odd;
 pub mod same;
 pub mod slip;
 
+// Rows of processings and questions what came before what.
+pub mod asked;
+pub mod faults;
+pub mod pairs;
+pub mod rows;
+pub mod samples;
+
 // Demand 3, checked on those lists.
 pub mod census;
 pub mod check;
