@@ -46,6 +46,7 @@ pub mod slip;
 // Rows of processings and questions what came before what.
 pub mod asked;
 pub mod faults;
+pub mod hard;
 pub mod pairs;
 pub mod rows;
 pub mod samples;
