@@ -29,7 +29,7 @@ extern "C" {
         tn: u16,
         later_chare: u8,
         later_tn: u16,
-    ) -> u16;
+    ) -> u32;
 }
 
 /// No line is longer than this, newline included: a show has 14 digits and a letter.
@@ -81,7 +81,7 @@ pub fn precedes(row: &[Processing], first: Name, second: Name) -> Answer {
         0 => Answer::No,
         1 => Answer::Yes,
         2 => Answer::Unknown,
-        1001..=1513 => Answer::Bad(code - 1000),
+        1001..=1513 => Answer::Bad((code - 1000) as u16),
         _ => panic!("{code} is no answer"),
     }
 }
