@@ -1,5 +1,5 @@
 /* The proved engine for callers in C (x86-64). `rt staticlib satuphir` proves it and writes target/staticlib/libsatuphir.a, to be
-   linked; it needs nothing else and keeps nothing between calls. c/play.c and c/survivors.c are examples. */
+   linked; it needs nothing else and keeps nothing between calls. c/play.c, c/survivors.c and c/precedes.c are examples. */
 #ifndef SATUPHIR_H
 #define SATUPHIR_H
 
@@ -31,6 +31,33 @@ size_t satuphir_transcript(const unsigned char *input, size_t input_len, unsigne
    alone (01, 02 or 03, as at the head of a list), an empty input nothing. Gives the number of bytes written. Where out_len is below
    SATUPHIR_SURVIVORS_SPACE nothing is written, and the answer is SATUPHIR_NO_ROOM, whatever the input. Both places as above. */
 size_t satuphir_survivors(const unsigned char *input, size_t input_len, unsigned char *out, size_t out_len);
+
+/* A processing: `chare` worked its ticket `tn`. The message was sent by `sender` when that one worked its own ticket `sender_tn`; both
+   are 0 for the desk. */
+typedef struct {
+  uint8_t chare;
+  uint16_t tn;
+  uint8_t sender;
+  uint16_t sender_tn;
+} satuphir_processing;
+
+/* A good row has no more records. */
+#define SATUPHIR_ROW_MOST 512
+
+/* The answers of satuphir_precedes. SATUPHIR_BAD and a place, 1 to 513: the row is bad there. */
+#define SATUPHIR_NO 0
+#define SATUPHIR_YES 1
+#define SATUPHIR_UNKNOWN 2
+#define SATUPHIR_BAD 1000
+
+/* Does the processing `chare`, `tn` come before the processing `later_chare`, `later_tn`? One comes before another on the same chare with a
+   higher TN, or the one whose message it sent, or through a chain of such steps; none before itself. The row is bad at its first record
+   that has a chare outside 1 to 12 or a sender outside 0 to 12, names as sending one that does not stand earlier in the row, gives the
+   desk a TN other than 0, is not the k-th of its chare with TN k, or is the 513th. Of a good row the answer is SATUPHIR_UNKNOWN if one
+   of the two is not in it, else SATUPHIR_YES or SATUPHIR_NO. The row is not changed; its pointer must not be null, not even for a
+   length of 0. */
+uint16_t satuphir_precedes(const satuphir_processing *row, size_t row_len, uint8_t chare, uint16_t tn, uint8_t later_chare,
+                           uint16_t later_tn);
 
 #ifdef __cplusplus
 }

@@ -2,44 +2,13 @@
 
 mod common;
 
+use common::c::{compiled, example};
 use common::run::fresh;
 use common::{folder, list, names};
 use reference::survivors::answer;
 use std::fs::{self, File};
-use std::path::{Path, PathBuf};
+use std::path::Path;
 use std::process::{Command, Stdio};
-
-fn root() -> PathBuf {
-    Path::new(env!("CARGO_MANIFEST_DIR")).join("..")
-}
-
-fn example(name: &str) -> PathBuf {
-    root().join("c").join(name)
-}
-
-/// A program in C, compiled over the proved engine's library.
-fn compiled(source: &Path) -> PathBuf {
-    let root = root();
-    let library = match std::env::var_os("SATUPHIR_LIB") {
-        Some(folder) => PathBuf::from(folder),
-        None => root.join("target/staticlib"),
-    };
-    let name = source.file_stem().expect("a name");
-    let program = fresh(&format!("c-{}", name.to_string_lossy())).join(name);
-    let output = Command::new("cc")
-        .args(["-std=c99", "-Wall", "-Wextra", "-Werror", "-pedantic"])
-        .arg("-I")
-        .arg(root.join("c"))
-        .arg(source)
-        .arg(library.join("libsatuphir.a"))
-        .arg("-o")
-        .arg(&program)
-        .output()
-        .expect("a C compiler, cc");
-    let said = String::from_utf8_lossy(&output.stderr);
-    assert!(output.status.success(), "{said}");
-    program
-}
 
 #[test]
 fn the_example_in_c_gives_the_lines() {

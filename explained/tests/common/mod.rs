@@ -3,10 +3,12 @@
 // Not every test needs all of it.
 #![allow(dead_code)]
 
+pub mod c;
 pub mod documents;
 pub mod run;
 pub mod steps;
 pub mod svg;
+pub mod told;
 
 use explained::engine;
 use explained::picture::{Drawing, Story};
