@@ -1,7 +1,8 @@
 //! Whose lines a run gives.
 
+use reference::precedes::{Answer, Name, Processing};
 #[cfg(not(feature = "engine"))]
-use reference::{reader::answer_all, survivors::answer};
+use reference::{precedes, reader::answer_all, survivors::answer};
 
 /// Was this built with the proved engine?
 pub const LINKED: bool = cfg!(feature = "engine");
@@ -28,4 +29,16 @@ pub fn survivors(input: &[u8]) -> Vec<u8> {
 #[cfg(not(feature = "engine"))]
 pub fn survivors(input: &[u8]) -> Vec<u8> {
     answer(input)
+}
+
+/// The proved engine's answer whether one processing of a row precedes another.
+#[cfg(feature = "engine")]
+pub fn precedes(row: &[Processing], first: Name, later: Name) -> Answer {
+    reference::engine::precedes(row, first, later)
+}
+
+/// As above: without the engine, the second implementation's.
+#[cfg(not(feature = "engine"))]
+pub fn precedes(row: &[Processing], first: Name, later: Name) -> Answer {
+    precedes::precedes(row, first, later)
 }

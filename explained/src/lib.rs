@@ -1,6 +1,7 @@
 //! The command for people: lists in words, played, explained and drawn; what stands where, and what can come next.
 
 // The list and its lines.
+pub mod before;
 pub mod engine;
 pub mod hints;
 pub mod lines;

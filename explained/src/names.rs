@@ -3,6 +3,7 @@
 use reference::job::Job;
 use reference::limits::DESK;
 use reference::message::Body;
+use reference::precedes;
 use reference::wire::{Content, Kind, Name};
 
 /// A machine, or the desk for 0.
@@ -24,6 +25,19 @@ pub fn sender(number: u8) -> String {
 /// A message by sender, receiver and SN.
 pub fn message(sender: u8, receiver: u8, sn: u16) -> String {
     format!("{sender}→{receiver} #{sn}")
+}
+
+/// A processing by chare and TN.
+pub fn processing((chare, tn): precedes::Name) -> String {
+    format!("{chare}:{tn}")
+}
+
+/// Who sent the message of a processing: an earlier processing, or the desk.
+pub fn sent_by(record: &precedes::Processing) -> String {
+    match record.sender {
+        DESK => sender(DESK),
+        chare => processing((chare, record.sender_tn)),
+    }
 }
 
 /// A value: decimal, as lists in words have it, and hexadecimal, as frames and states do.

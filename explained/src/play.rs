@@ -57,28 +57,43 @@ impl fmt::Display for Difference {
         say_loudly(
             f,
             &what,
-            &self.frame,
+            ("frame:", &self.frame),
             both,
             "Nothing after this frame is explained.",
         )
     }
 }
 
-/// That the engine and the second implementation differ, between two rules so that nobody overlooks it.
+/// That the engine and the second implementation differ, and in what they were given.
 pub fn say_loudly(
     f: &mut fmt::Formatter<'_>,
     what: &str,
-    frame: &str,
+    asked: (&str, &str),
     [engine, second]: [&String; 2],
+    then: &str,
+) -> fmt::Result {
+    let lines = [
+        asked,
+        ("proved engine:", engine),
+        ("second implementation:", second),
+    ];
+    loud(f, what, &lines, &format!("One of them is wrong. {then}"))
+}
+
+/// What must not be, between two rules so that nobody overlooks it.
+pub fn loud(
+    f: &mut fmt::Formatter<'_>,
+    what: &str,
+    lines: &[(&str, &str)],
     then: &str,
 ) -> fmt::Result {
     let rule = "!".repeat(72);
     writeln!(f, "{rule}")?;
     writeln!(f, "!!! {what}")?;
-    writeln!(f, "!!! frame:                 {frame}")?;
-    writeln!(f, "!!! proved engine:         {engine}")?;
-    writeln!(f, "!!! second implementation: {second}")?;
-    writeln!(f, "!!! One of them is wrong. {then}")?;
+    for (name, text) in lines {
+        writeln!(f, "!!! {name:<22} {text}")?;
+    }
+    writeln!(f, "!!! {then}")?;
     writeln!(f, "{rule}")
 }
 

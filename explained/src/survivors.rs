@@ -22,7 +22,8 @@ impl fmt::Display for Difference {
     fn fmt(&self, f: &mut fmt::Formatter<'_>) -> fmt::Result {
         let what = "THE COUNTS OF CRASH SETS DIFFER";
         let both = [&self.engine, &self.second];
-        say_loudly(f, what, &self.frame, both, "No count is printed.")
+        let frame = ("frame:", self.frame.as_str());
+        say_loudly(f, what, frame, both, "No count is printed.")
     }
 }
 

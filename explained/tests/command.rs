@@ -52,6 +52,7 @@ fn help_is_on_standard_output() {
             "state",
             "next",
             "survivors",
+            "before",
             "encode",
             "decode",
         ] {
@@ -78,6 +79,7 @@ fn every_subcommand_takes_words_and_digits() {
         &["state", "6", "-"],
         &["next", "-"],
         &["survivors", "-"],
+        &["before", "-"],
         &["encode", "-"],
         &["decode", "-"],
     ] {
@@ -345,6 +347,8 @@ fn quick_says_so() {
         &["state", "3", &list_file],
         &["next", &list_file],
         &["survivors", &list_file],
+        &["before", &list_file],
+        &["before", &list_file, "1:1", "2:1"],
     ] {
         let quick: Vec<&str> = args.iter().copied().chain(["--quick"]).collect();
         let (status, out, error) = run(&quick);

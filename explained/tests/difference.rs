@@ -1,5 +1,6 @@
 //! A line that differs from the engine's is told loudly.
 
+use explained::before::Wrong;
 use explained::play::{play, Difference};
 use explained::report::report;
 
@@ -83,4 +84,8 @@ fn states_and_pages_tell_of_a_difference() {
     assert_eq!(difference.number, 2);
     let page = explained::page::page("a list", "wrong", LIST, wrong).expect("a page");
     assert_eq!(page.difference.map(|difference| difference.number), Some(2));
+    match explained::before::text(LIST, wrong, None, &[]) {
+        Err(Wrong::Lines(difference)) => assert_eq!(difference.number, 2),
+        other => panic!("{other:?}"),
+    }
 }

@@ -74,11 +74,57 @@ fn bad_calls() {
             &["survivors", &list, "--pages"],
             "--pages goes with picture alone",
         ),
+        (
+            &["before"],
+            "before needs a list (a file, or - for standard input)",
+        ),
+        (
+            &["before", &list, "1:1"],
+            "\"1:1\" stands alone: before LIST A B asks whether A came before B",
+        ),
+        (
+            &["before", &list, "1:1", "2:1", "2:2"],
+            "\"2:2\" stands alone: before LIST A B asks whether A came before B",
+        ),
+        (
+            &["before", &list, "--picture", "x.svg"],
+            "--picture goes with explain alone",
+        ),
+        (
+            &["before", &list, "--pages"],
+            "--pages goes with picture alone",
+        ),
     ] {
         let (status, out, error) = run(args);
         assert_eq!((status, out.as_str()), (2, ""), "{args:?}");
         assert_eq!(error, format!("satuphir: {message}\n{HINT}"), "{args:?}");
     }
+}
+
+/// A processing is called by two decimal numbers, and nothing else.
+#[test]
+fn names_of_processings() {
+    let list = example();
+    for name in [
+        "1", "1:", ":1", ":", "1:1:1", "1.1", "1-1", "a:1", "1:b", "+1:1", "1:+1", "0x1:1", " 1:1",
+        "1:1 ", "256:1", "1:65536", "-1:1", "1:-1", "",
+    ] {
+        let message = match name.strip_prefix('-') {
+            Some(_) => format!("there is no option \"{name}\""),
+            None => format!(
+                "\"{name}\" is no processing: it is called CHARE:TN, such as 3:2, up to 255:65535"
+            ),
+        };
+        for pair in [[name, "1:1"], ["1:1", name]] {
+            let (status, out, error) = run(&["before", &list, pair[0], pair[1]]);
+            assert_eq!((status, out.as_str()), (2, ""), "{name}");
+            assert_eq!(error, format!("satuphir: {message}\n{HINT}"), "{name}");
+        }
+    }
+    // Numbers that fit are asked for, whatever they are.
+    let (status, out, error) = run(&["before", &list, "255:65535", "0:0"]);
+    assert_eq!((status, error.as_str()), (0, ""));
+    assert!(out.starts_with("255:65535 before 0:0: unknown. "), "{out}");
 }
 
 #[test]
@@ -121,6 +167,7 @@ fn a_full_disk() {
         &["state", "3"],
         &["next"],
         &["survivors"],
+        &["before"],
         &["encode"],
         &["decode"],
         &["--help"],

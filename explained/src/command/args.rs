@@ -1,6 +1,7 @@
 //! What was asked, from the words of the call. Options may stand anywhere; after `--` there are none.
 
 use super::Failure;
+use reference::precedes::Name;
 use std::ffi::{OsStr, OsString};
 
 #[derive(Clone, Copy, Debug, PartialEq, Eq)]
@@ -13,6 +14,7 @@ pub enum Task {
     State(usize),
     Next,
     Survivors,
+    Before,
     Encode,
     Decode,
 }
@@ -24,6 +26,8 @@ pub struct Asked {
     pub list: OsString,
     /// The file to write, for a picture or a page.
     pub out: Option<OsString>,
+    /// Of which processings it is asked whether the first came before the second.
+    pub pairs: Vec<(Name, Name)>,
 }
 
 /// The options as they were found.
@@ -48,6 +52,7 @@ impl Asked {
             pages: false,
             list: OsString::new(),
             out: None,
+            pairs: Vec::new(),
         };
         if options.help {
             return Ok(help);
@@ -69,6 +74,7 @@ impl Asked {
             Some("state") => Task::State(frame(&word("the number of a frame, and a list")?)?),
             Some("next") => Task::Next,
             Some("survivors") => Task::Survivors,
+            Some("before") => Task::Before,
             Some("encode") => Task::Encode,
             Some("decode") => Task::Decode,
             _ => {
@@ -85,6 +91,10 @@ impl Asked {
             Task::Explain => options.picture.clone(),
             _ => None,
         };
+        let pairs = match task {
+            Task::Before => pairs(words.by_ref())?,
+            _ => Vec::new(),
+        };
         if let Some(more) = words.next() {
             return usage(format!("\"{}\" is too much", more.to_string_lossy()));
         }
@@ -100,6 +110,7 @@ impl Asked {
             pages: options.pages,
             list,
             out,
+            pairs,
         })
     }
 
@@ -145,6 +156,35 @@ fn frame(word: &OsStr) -> Result<usize, Failure> {
         Some(number) => Ok(number),
         None => usage(format!(
             "\"{}\" is no number of a frame: state N LIST, N from 0",
+            word.to_string_lossy()
+        )),
+    }
+}
+
+/// Processings two by two.
+fn pairs(mut words: impl Iterator<Item = OsString>) -> Result<Vec<(Name, Name)>, Failure> {
+    let mut pairs = Vec::new();
+    while let Some(first) = words.next() {
+        let Some(later) = words.next() else {
+            return usage(format!(
+                "\"{}\" stands alone: before LIST A B asks whether A came before B",
+                first.to_string_lossy()
+            ));
+        };
+        pairs.push((processing(&first)?, processing(&later)?));
+    }
+    Ok(pairs)
+}
+
+/// `3:2`, decimal numbers that fit their bytes; one that is in no row is unknown, and no bad call.
+fn processing(word: &OsStr) -> Result<Name, Failure> {
+    let numbers = word.to_str().and_then(|word| word.split_once(':'));
+    let is_number = |part: &str| part.bytes().all(|b| b.is_ascii_digit());
+    let numbers = numbers.filter(|(chare, tn)| is_number(chare) && is_number(tn));
+    match numbers.map(|(chare, tn)| (chare.parse(), tn.parse())) {
+        Some((Ok(chare), Ok(tn))) => Ok((chare, tn)),
+        _ => usage(format!(
+            "\"{}\" is no processing: it is called CHARE:TN, such as 3:2, up to 255:65535",
             word.to_string_lossy()
         )),
     }

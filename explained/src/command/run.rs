@@ -8,7 +8,7 @@ use crate::hints::hints;
 use crate::lines::cut;
 use crate::picture::{check_length, Drawing, Story};
 use crate::state::Wrong;
-use crate::{ahead, engine, notation, page, report, state, survivors};
+use crate::{ahead, before, engine, notation, page, report, state, survivors};
 use reference::reader::answer_all;
 use std::fmt::Display;
 
@@ -102,39 +102,48 @@ fn with_lines(asked: &Asked, digits: &[u8]) -> Result<u8, Failure> {
         true => (answer_all(digits), QUICK),
         false => (engine::lines(digits), "the proved engine's"),
     };
+    let ask = (!asked.quick).then_some(engine::precedes as before::Ask);
     say_whose(asked);
-    let difference = match asked.task {
-        Task::Play => print(&lines).map(|()| None)?,
+    match asked.task {
+        Task::Play => print(&lines).map(|()| DONE),
         Task::State(number) => match state::after(digits, &lines, number) {
-            Ok(text) => print(text.as_bytes()).map(|()| None)?,
-            Err(Wrong::NoFrame(message)) => return Err(Failure::Usage(message)),
-            Err(Wrong::Difference(difference)) => Some(difference),
+            Err(Wrong::NoFrame(message)) => Err(Failure::Usage(message)),
+            Err(Wrong::Difference(difference)) => Ok(status(Some(difference))),
+            Ok(text) => print(text.as_bytes()).map(|()| DONE),
         },
-        Task::Next => match ahead::next(digits, &lines) {
-            Ok(text) => print(text.as_bytes()).map(|()| None)?,
-            Err(difference) => Some(difference),
-        },
+        Task::Next => said(ahead::next(digits, &lines)),
+        Task::Before => said(before::text(digits, &lines, ask, &asked.pairs)),
         Task::Page => {
             let page = page::page(&title(asked), whose, digits, &lines);
             let page = page.map_err(|message| too_long(asked, message))?;
             put_file(asked, &page.html)?;
-            page.difference
+            Ok(status(page.difference))
         }
-        _ => {
-            if asked.out.is_some() {
-                check_length(cut(digits).len()).map_err(|message| too_long(asked, message))?;
-            }
-            let report = report::report(digits, &lines);
-            if asked.out.is_some() {
-                put_picture(asked, &report.story)?;
-            }
-            if asked.task == Task::Explain {
-                print(report.text.as_bytes())?;
-            }
-            report.difference
-        }
-    };
-    Ok(status(difference))
+        _ => explained(asked, digits, &lines),
+    }
+}
+
+/// Prints a text, or says why there is none.
+fn said(text: Result<String, impl Display>) -> Result<u8, Failure> {
+    match text {
+        Ok(text) => print(text.as_bytes()).map(|()| DONE),
+        Err(wrong) => Ok(status(Some(wrong))),
+    }
+}
+
+/// The words, the picture, or both.
+fn explained(asked: &Asked, digits: &[u8], lines: &[u8]) -> Result<u8, Failure> {
+    if asked.out.is_some() {
+        check_length(cut(digits).len()).map_err(|message| too_long(asked, message))?;
+    }
+    let report = report::report(digits, lines);
+    if asked.out.is_some() {
+        put_picture(asked, &report.story)?;
+    }
+    if asked.task == Task::Explain {
+        print(report.text.as_bytes())?;
+    }
+    Ok(status(report.difference))
 }
 
 /// What stands over a picture or a page. It outlives the run, so it too says whose lines these are not.

@@ -8,6 +8,7 @@ tools/satuphir page LIST OUT.html        picture, words and state in one page, t
 tools/satuphir state N LIST              all that stands after frame N, with what it changed
 tools/satuphir next LIST                 what would be accepted after the list, and what would not
 tools/satuphir survivors LIST            how many crash sets the buddies of the list's job survive
+tools/satuphir before LIST [A B]...      what came before what: which processing before which
 tools/satuphir encode LIST               words to hexadecimal digits
 tools/satuphir decode LIST               hexadecimal digits to words
 
@@ -19,6 +20,12 @@ survivors looks at the first frame alone, the job. For each f from 1 to the numb
 prints three numbers: f, how many sets of f machines there are, and in how many of these no machine
 stands together with its buddy, so that each one's copy is left if all of the set crash at once. A
 first frame that is no acceptable job gets its line alone. docs/SURVIVORS.md compares layouts.
+
+before looks at the processings, the accepted works. One is called by its chare and TN: 3:2 is chare
+3's work of TN 2. For each pair A B it says whether A came before B: on the same chare with a lower
+TN, or through the processing that sent B's message, or through a chain of such steps; unknown if the
+list does not do one of them. Without a pair it prints all of them, each with the ones that arrows
+come from and all that came before it. A row of more than 512 is bad. docs/BEFORE.md has an example.
 
 --quick               play with the second implementation, which builds in seconds: these are not
                       the proved engine's lines, and every such run says so

@@ -10,8 +10,10 @@ pub mod steps;
 pub mod svg;
 pub mod told;
 
+use explained::before::row::Row;
 use explained::engine;
 use explained::picture::{Drawing, Story};
+use explained::play::play;
 use explained::report::{report, Report};
 use reference::generator;
 use std::fs;
@@ -56,4 +58,12 @@ pub fn explained(input: &[u8]) -> Report {
 
 pub fn drawn(title: &str, story: &Story) -> String {
     Drawing::new(title, story).expect("a picture").whole()
+}
+
+/// The row of a list.
+pub fn row(list: &[u8]) -> Row {
+    let mut row = Row::default();
+    let played = play(list, &engine::lines(list), |step| row.see(step));
+    assert_eq!(played, Ok(()));
+    row
 }

@@ -57,6 +57,7 @@ pub fn with_list(list: &OsStr) -> Vec<Vec<&OsStr>> {
         vec![word("state"), word("1"), list],
         vec![word("next"), list],
         vec![word("survivors"), list],
+        vec![word("before"), list],
         vec![word("encode"), list],
         vec![word("decode"), list],
     ]
