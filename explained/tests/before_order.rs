@@ -7,6 +7,7 @@ use explained::before::order::{Link, Order};
 use explained::before::row::Work;
 use explained::before::{bad, pairs, text, Ask, Wrong};
 use explained::engine;
+use explained::page::page;
 use reference::generator;
 use reference::job::ix;
 use reference::limits::MAX_CHARES;
@@ -126,6 +127,14 @@ fn answers_that_differ_are_told_loudly() {
         "{loud}"
     );
     assert!(loud.contains("second implementation: unknown\n"), "{loud}");
+    // A page leaves the order out, and the command says why.
+    for ask in [once_wrong, always_yes, bad_at_once] {
+        let page = page("a list", "some", &list, &lines, Some(ask)).expect("a page");
+        assert!(matches!(page.wrong, Some(Wrong::Order(_))));
+        let words =
+            "\"works\":\"What came before what is not said here: the command that made the page said why.\"";
+        assert!(page.html.contains(words));
+    }
 }
 
 /// No list has a row that is bad before its end. This one is made by hand, without the record of 1:1.

@@ -82,8 +82,11 @@ fn states_and_pages_tell_of_a_difference() {
     }
     let difference = explained::ahead::next(LIST, wrong).expect_err("a difference");
     assert_eq!(difference.number, 2);
-    let page = explained::page::page("a list", "wrong", LIST, wrong).expect("a page");
-    assert_eq!(page.difference.map(|difference| difference.number), Some(2));
+    let page = explained::page::page("a list", "wrong", LIST, wrong, None).expect("a page");
+    match page.wrong {
+        Some(Wrong::Lines(difference)) => assert_eq!(difference.number, 2),
+        other => panic!("{other:?}"),
+    }
     match explained::before::text(LIST, wrong, None, &[]) {
         Err(Wrong::Lines(difference)) => assert_eq!(difference.number, 2),
         other => panic!("{other:?}"),

@@ -165,7 +165,7 @@ fn letters_are_drawn() {
 #[test]
 fn letters_are_on_the_page() {
     let list = list(ALL);
-    let page = page(ALL, "some", &list, &engine::lines(&list)).expect("a page");
+    let page = page(ALL, "some", &list, &engine::lines(&list), None).expect("a page");
     let (_, letters) = page
         .html
         .split_once("<details id=\"letters\">")

@@ -2,15 +2,7 @@
 
 mod common;
 
-use common::{list, names};
-use explained::engine;
-use explained::page::page;
-
-fn made(title: &str, list: &[u8]) -> String {
-    let page = page(title, "the proved engine's", list, &engine::lines(list)).expect("a page");
-    assert_eq!(page.difference, None);
-    page.html
-}
+use common::{list, made, names};
 
 #[test]
 fn nothing_is_fetched() {
@@ -74,5 +66,5 @@ fn marks_stay_text() {
 
 #[test]
 fn an_empty_list_has_a_page() {
-    assert!(made("empty", b"").contains("{\"moments\":[],\"rows\":[]}"));
+    assert!(made("empty", b"").contains("{\"moments\":[],\"rows\":[],\"works\":[]}"));
 }

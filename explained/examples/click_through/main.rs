@@ -4,10 +4,13 @@
 mod browser;
 
 use browser::Browser;
+use explained::before::row::{Row, Work};
+use explained::names::processing;
 use explained::play::play;
 use explained::state::compared;
 use explained::words::words;
 use explained::{engine, notation};
+use reference::precedes::{Answer, Chains};
 use std::process::ExitCode;
 
 /// What the page shows of one frame.
@@ -15,11 +18,25 @@ struct Moment {
     head: String,
     text: String,
     state: String,
+    order: Option<Order>,
+}
+
+/// What it shows of a processing.
+#[derive(Clone)]
+struct Order {
+    name: String,
+    /// The frames that did what came before it, and what came after it.
+    before: usize,
+    after: usize,
+    /// The frame, from 0, that first did the one from which its first arrow comes.
+    from: Option<usize>,
 }
 
 fn moments(list: &[u8]) -> Vec<Moment> {
     let mut moments = Vec::new();
+    let mut row = Row::default();
     let result = play(list, &engine::lines(list), |step| {
+        row.see(step);
         let mut state = Vec::new();
         for section in compared(step.before, step.after) {
             state.push(section.title.clone());
@@ -33,10 +50,57 @@ fn moments(list: &[u8]) -> Vec<Moment> {
             head: step.head(),
             text: words(step).join("\n"),
             state: state.join("\n"),
+            order: None,
         });
     });
     assert!(result.is_ok(), "the lines differ");
+    for work in &row.works {
+        let order = order(&row, work);
+        for frame in &work.frames {
+            moments[frame - 1].order = Some(order.clone());
+        }
+    }
     moments
+}
+
+/// Counted with the second implementation.
+fn order(row: &Row, work: &Work) -> Order {
+    let chains = Chains::of(&row.records());
+    let count = |is: &dyn Fn(&Work) -> Answer| -> usize {
+        let works = row.works.iter().filter(|other| is(other) == Answer::Yes);
+        works.map(|other| other.frames.len()).sum()
+    };
+    let from = work.previous().or(work.sender());
+    let first = row.works.iter().find(|other| Some(other.name()) == from);
+    Order {
+        name: processing(work.name()),
+        before: count(&|other| chains.answer(other.name(), work.name())),
+        after: count(&|other| chains.answer(work.name(), other.name())),
+        from: first.map(|other| other.frames[0] - 1),
+    }
+}
+
+/// Is the processing of a frame shown, and all that came before it and after it marked?
+fn check_order(browser: &mut Browser, frame: usize, order: Option<&Order>) {
+    let marked = |dashed: &str| format!("String(marks.querySelectorAll('rect{dashed}').length)");
+    let before = browser.value(&marked(":not([stroke-dasharray])"));
+    let after = browser.value(&marked("[stroke-dasharray]"));
+    let said = browser.value("document.getElementById('order').firstChild.textContent");
+    let (start, counts) = match order {
+        Some(order) => (
+            format!("Processing {}, ", order.name),
+            [order.before, order.after],
+        ),
+        None => (String::new(), [0, 0]),
+    };
+    assert_eq!(
+        said.starts_with("Processing "),
+        order.is_some(),
+        "frame {frame}: {said}"
+    );
+    assert!(said.starts_with(&start), "frame {frame}: {said}");
+    same("before", frame, &before, &counts[0].to_string());
+    same("after", frame, &after, &counts[1].to_string());
 }
 
 /// The titles of the packets that have a label, in the order of the page.
@@ -97,6 +161,7 @@ fn check(browser: &mut Browser, moments: &[Moment], at: usize) {
         .filter(|line| line.starts_with(['*', '-']))
         .count();
     same("marks", frame, &marked, &changes.to_string());
+    check_order(browser, frame, moments[at].order.as_ref());
     // The row with the frame's number is marked, and in sight; a folded frame has no number.
     let seen = browser.value(&format!(
         "(() => {{ const r = row.getBoundingClientRect(), p = picture.getBoundingClientRect(); \
@@ -150,6 +215,16 @@ fn main() -> ExitCode {
         browser.click(&number);
         check(&mut browser, &moments, at);
     }
+    // Back along an arrow, from each processing that one comes to.
+    let ways = moments.iter().enumerate();
+    let ways: Vec<(usize, usize)> = ways
+        .filter_map(|(at, moment)| Some((at, moment.order.as_ref()?.from?)))
+        .collect();
+    for &(at, from) in &ways {
+        browser.value(&format!("String(show({at}))"));
+        browser.click("document.querySelector('#order button')");
+        check(&mut browser, &moments, from);
+    }
     // Every packet with its label.
     let titles = titles(&html);
     for (at, title) in titles.iter().enumerate() {
@@ -161,8 +236,10 @@ fn main() -> ExitCode {
     assert_eq!(labels, titles.len().to_string(), "packets");
     browser.close();
     println!(
-        "the page shows what the list gives: {} frames by button and key, {} packets pointed at, nothing fetched, no error",
+        "the page shows what the list gives: {} frames by button and key, {} arrows between processings gone along, {} packets pointed at, \
+         nothing fetched, no error",
         moments.len(),
+        ways.len(),
         titles.len()
     );
     ExitCode::SUCCESS

@@ -114,10 +114,10 @@ fn with_lines(asked: &Asked, digits: &[u8]) -> Result<u8, Failure> {
         Task::Next => said(ahead::next(digits, &lines)),
         Task::Before => said(before::text(digits, &lines, ask, &asked.pairs)),
         Task::Page => {
-            let page = page::page(&title(asked), whose, digits, &lines);
+            let page = page::page(&title(asked), whose, digits, &lines, ask);
             let page = page.map_err(|message| too_long(asked, message))?;
             put_file(asked, &page.html)?;
-            Ok(status(page.difference))
+            Ok(status(page.wrong))
         }
         _ => explained(asked, digits, &lines),
     }

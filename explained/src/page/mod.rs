@@ -1,10 +1,13 @@
 //! One page to click through: the picture beside the words, and the state of the moment. It fetches nothing from elsewhere.
 
 mod json;
+mod works;
 
+use crate::before::row::Row;
+use crate::before::{self, Ask, Wrong};
 use crate::lines::cut;
-use crate::picture::{Drawing, Recorder};
-use crate::play::{play, Difference, Step};
+use crate::picture::{Drawing, Place, Recorder};
+use crate::play::{play, Step};
 use crate::state::compared;
 use crate::words::{letter, words};
 use json::{array, quoted};
@@ -16,34 +19,57 @@ pub const MOST_FRAMES: usize = 1000;
 
 pub struct Page {
     pub html: String,
-    pub difference: Option<Difference>,
+    pub wrong: Option<Wrong>,
 }
 
-/// The page of a list, given the lines for it and whose they are.
-pub fn page(title: &str, whose: &str, input: &[u8], lines: &[u8]) -> Result<Page, String> {
+/// The page of a list, given the lines for it and whose they are, and whom to ask what came before what.
+pub fn page(
+    title: &str,
+    whose: &str,
+    input: &[u8],
+    lines: &[u8],
+    ask: Option<Ask>,
+) -> Result<Page, String> {
     let frames = cut(input).len();
     if frames > MOST_FRAMES {
         return Err(format!(
             "too long for a page: {frames} frames, and a page has at most {MOST_FRAMES}"
         ));
     }
-    let mut recorder = Recorder::new();
+    let (mut recorder, mut row) = (Recorder::new(), Row::default());
     let mut moments = Vec::new();
     let result = play(input, lines, |step| {
         recorder.see(step);
+        row.see(step);
         moments.push(moment(step));
     });
     let drawing = Drawing::new(title, &recorder.story)?;
     let rows = drawing.rows.iter();
     let rows = rows.map(|(top, height)| format!("[{top:.1},{height:.1}]"));
+    let (works, wrong) = match processings(&row, &drawing.works, ask) {
+        Ok(works) => (works, None),
+        Err(wrong) => (quoted(NOT_SAID), Some(wrong)),
+    };
     let data = format!(
-        "{{\"moments\":{},\"rows\":{}}}",
+        "{{\"moments\":{},\"rows\":{},\"works\":{works}}}",
         array(moments),
         array(rows.collect())
     );
     Ok(Page {
         html: html(title, whose, &drawing.whole(), &data),
-        difference: result.err(),
+        wrong: result.err().map(Wrong::Lines).or(wrong),
+    })
+}
+
+const NOT_SAID: &str =
+    "What came before what is not said here: the command that made the page said why.";
+
+/// The processings with all that came before each, or the words why they cannot be told.
+fn processings(row: &Row, places: &[Option<Place>], ask: Option<Ask>) -> Result<String, Wrong> {
+    let order = row.order(ask)?;
+    Ok(match order.bad()? {
+        Some(place) => quoted(&before::bad(&order, place)),
+        None => works::works(&order, places)?,
     })
 }
 
@@ -101,6 +127,7 @@ fn html(title: &str, whose: &str, picture: &str, data: &str) -> String {
 <div id=\"side\">
 <section><h2 id=\"head\"></h2><div id=\"text\" aria-live=\"polite\"></div></section>
 <section><h2>Packet</h2><p id=\"packet\"></p></section>
+<section id=\"came\"><h2>What came before</h2><div id=\"order\" tabindex=\"-1\" aria-live=\"polite\"></div></section>
 <section><details id=\"letters\"><summary>{heading}</summary>
 {letters}</details></section>
 <section><h2>What stands</h2><p class=\"key\">* new or other than before, - gone</p><div id=\"state\"></div></section>

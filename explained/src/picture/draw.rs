@@ -1,8 +1,9 @@
 //! Puts the picture together.
 
 use super::fold::fold;
-use super::layout::{Layout, PAGE_TITLE};
-use super::record::Story;
+use super::layout::{pill_width, Layout, PAGE_TITLE};
+use super::marked::MarkKind;
+use super::record::{Row, Story};
 use super::routes::routes;
 use super::svg::{Anchor, Area, Point, Svg};
 use super::{arrows, columns, lanes, legend, marks};
@@ -30,6 +31,16 @@ pub struct Drawing {
     layout: Layout,
     /// Top and height of the row of each frame.
     pub rows: Vec<(f64, f64)>,
+    /// The mark of each frame that is a work.
+    pub works: Vec<Option<Place>>,
+}
+
+/// Where the mark of a work stands: its middle, and how wide it is; 0 if the frame is folded away.
+#[derive(Clone, Copy, Debug, PartialEq)]
+pub struct Place {
+    pub x: f64,
+    pub y: f64,
+    pub width: f64,
 }
 
 impl Drawing {
@@ -37,7 +48,8 @@ impl Drawing {
     pub fn new(title: &str, story: &Story) -> Result<Drawing, String> {
         let frames = story.rows.len();
         check_length(frames)?;
-        let (story, places) = fold(story);
+        let whole = story;
+        let (story, places) = fold(whole);
         if story.rows.len() > MOST_ROWS {
             return Err(format!(
                 "too long to draw: {frames} frames, {} rows after folding what repeats, and a picture has at most {MOST_ROWS}",
@@ -60,10 +72,13 @@ impl Drawing {
             (area.y, area.height)
         };
         let rows = places.iter().map(area).collect();
+        let work = |(row, &at): (&Row, &usize)| work(row, &story.rows[at], at, &layout);
+        let works = whole.rows.iter().zip(&places).map(work).collect();
         Ok(Drawing {
             body: svg,
             layout,
             rows,
+            works,
         })
     }
 
@@ -81,6 +96,20 @@ impl Drawing {
         let sheet = |&(top, _): &(f64, f64)| self.body.file(width, top, page, Some(&size));
         self.layout.pages.iter().map(sheet).collect()
     }
+}
+
+/// The place of a frame's mark, if it is a work; its row in the picture may stand for a stretch.
+fn work(frame: &Row, row: &Row, at: usize, layout: &Layout) -> Option<Place> {
+    let mark = frame.marks.first()?;
+    let width = match row.is_folded() {
+        true => 0.0,
+        false => pill_width(&mark.text),
+    };
+    (mark.kind == MarkKind::Work).then(|| Place {
+        x: layout.lane(mark.machine),
+        y: layout.moment(at),
+        width,
+    })
 }
 
 /// Title and names of lanes, on every page. They lie over what goes on from page to page.

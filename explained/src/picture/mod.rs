@@ -14,6 +14,6 @@ mod routes;
 mod svg;
 mod tracks;
 
-pub use draw::{check_length, Drawing, MOST_FRAMES, MOST_ROWS};
+pub use draw::{check_length, Drawing, Place, MOST_FRAMES, MOST_ROWS};
 pub use record::{Recorder, Story};
 pub use svg::escape;

@@ -11,7 +11,9 @@ pub mod svg;
 pub mod told;
 
 use explained::before::row::Row;
+use explained::before::Ask;
 use explained::engine;
+use explained::page::page;
 use explained::picture::{Drawing, Story};
 use explained::play::play;
 use explained::report::{report, Report};
@@ -58,6 +60,14 @@ pub fn explained(input: &[u8]) -> Report {
 
 pub fn drawn(title: &str, story: &Story) -> String {
     Drawing::new(title, story).expect("a picture").whole()
+}
+
+/// The page of a list.
+pub fn made(title: &str, list: &[u8]) -> String {
+    let (lines, ask) = (engine::lines(list), engine::precedes as Ask);
+    let page = page(title, "the proved engine's", list, &lines, Some(ask)).expect("a page");
+    assert_eq!(page.wrong, None);
+    page.html
 }
 
 /// The row of a list.
