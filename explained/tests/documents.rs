@@ -336,6 +336,7 @@ fn names_of_files() {
         ("README.md", "."),
         ("docs/RULES.md", "."),
         ("docs/SURVIVORS.md", "."),
+        ("docs/BEFORE.md", "."),
         ("explained/README.md", "explained"),
         ("examples/README.md", "examples"),
     ] {
