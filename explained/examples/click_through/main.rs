@@ -82,9 +82,11 @@ fn order(row: &Row, work: &Work) -> Order {
 
 /// Is the processing of a frame shown, and all that came before it and after it marked?
 fn check_order(browser: &mut Browser, frame: usize, order: Option<&Order>) {
-    let marked = |dashed: &str| format!("String(marks.querySelectorAll('rect{dashed}').length)");
-    let before = browser.value(&marked(":not([stroke-dasharray])"));
-    let after = browser.value(&marked("[stroke-dasharray]"));
+    let marked = |look: &str| {
+        let rects = format!("rect[stroke=\"' + {look}.stroke + '\"]");
+        format!("String(marks.querySelectorAll('{rects}').length)")
+    };
+    let [before, after] = ["BEFORE", "AFTER"].map(|look| browser.value(&marked(look)));
     let said = browser.value("document.getElementById('order').firstChild.textContent");
     let (start, counts) = match order {
         Some(order) => (

@@ -10,7 +10,7 @@ const HINT = 'Point at a packet of the picture: what it says stands here.';
 const works = Array.isArray(data.works) ? data.works : [];
 const untold = works === data.works ? 'The list has no processing.' : data.works;
 const GO = 'Go to an accepted work: what came before it and after it stands here, and is marked in the picture.';
-const KEY = 'In the picture: solid frames came before it, dashed ones after it.';
+const KEY = 'In the picture: thick frames came before it, dashed ones after it, thin ones are its own.';
 let now = 0;
 
 function shape(tag, attributes) {
@@ -43,6 +43,7 @@ function showState(sections) {
 }
 
 const BEFORE = { stroke: '#00695c', 'stroke-width': 2.5, fill: 'none' };
+const OWN = { stroke: '#222', 'stroke-width': 1, fill: 'none' };
 const AFTER = { stroke: '#bf360c', 'stroke-width': 2.5, fill: 'none', 'stroke-dasharray': '7 4' };
 
 // A processing's clock says how many of each chare's came before it.
@@ -99,6 +100,7 @@ function showOrder(frame) {
     way(to.length ? 'Arrows to' : 'No arrow goes from it.', to),
   );
   marks.replaceChildren(
+    ...framed(work, OWN),
     ...works.filter((one) => precedes(one, work)).flatMap((one) => framed(one, BEFORE)),
     ...works.filter((one) => precedes(work, one)).flatMap((one) => framed(one, AFTER)),
     ...from.flatMap((one) => arrow(one.marks, work.marks, BEFORE)),
