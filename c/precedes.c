@@ -26,9 +26,9 @@ static int read_name(const char *word, pair out) {
   return end > 0 && word[end] == '\0' && fits(out);
 }
 
-static void print_answer(unsigned answer) {
+static void print_answer(uint32_t answer) {
   if (answer > SATUPHIR_BAD)
-    printf("bad at place %u\n", answer - SATUPHIR_BAD);
+    printf("bad at place %u\n", (unsigned)(answer - SATUPHIR_BAD));
   else
     puts(answer == SATUPHIR_YES ? "yes" : answer == SATUPHIR_NO ? "no" : "unknown");
 }

@@ -56,7 +56,7 @@ typedef struct {
    desk a TN other than 0, is not the k-th of its chare with TN k, or is the 513th. Of a good row the answer is SATUPHIR_UNKNOWN if one
    of the two is not in it, else SATUPHIR_YES or SATUPHIR_NO. The row is not changed; its pointer must not be null, not even for a
    length of 0. */
-uint16_t satuphir_precedes(const satuphir_processing *row, size_t row_len, uint8_t chare, uint16_t tn, uint8_t later_chare,
+uint32_t satuphir_precedes(const satuphir_processing *row, size_t row_len, uint8_t chare, uint16_t tn, uint8_t later_chare,
                            uint16_t later_tn);
 
 #ifdef __cplusplus
