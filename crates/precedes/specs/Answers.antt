@@ -1,9 +1,9 @@
 -- From what was found and marked to the right answer.
-use Rattle.lists.specs.Basics.{_≡_, refl, sym, ap, _∙_, Bool, true, false, _&&_, not, List, _⊎_, inl, inr, ℕ, zero, suc, _+_, _-_, _<_, _≤_, arith, length, getD, take, take-length, replicate, eqb, eq-eqb, ne-eqb, and-false}
-use Rattle.lists.specs.Tests.{eq?, and-i, true-not-false}
+use Rattle.lists.specs.Basics.{_≡_, sym, ap, _∙_, Bool, true, false, _&&_, not, List, _⊎_, inl, inr, ℕ, suc, _-_, _<_, _≤_, arith, length, take-length, replicate, eqb, eq-eqb, ne-eqb, and-false}
+use Rattle.lists.specs.Tests.{and-i, true-not-false}
 use Rattle.arrays.specs.ArrayMap.{as-map, map-blank}
-use Rattle.precedes.specs.{declared.Processing.Processing, declared.Answer.the-variants.{Bad, Unknown, Yes, No}, Precedes.{Name, stands, bad-place, Chain, Right}}
-use Rattle.precedes.specs.{Rows.{Is, good-room}, Chains.{Place, Reach, reach-chain, chain-reach}, Visits.{Marked, Whole, Visited}}
+use Rattle.precedes.specs.{declared.Processing.Processing, declared.Answer.the-variants.{Unknown, Yes, No}, Precedes.{Name, stands, bad-place, Right}}
+use Rattle.precedes.specs.{Rows.{Is, good-room}, Chains.{reach-chain, chain-reach}, Visits.{Marked, Whole, Visited}}
 use Rattle.precedes.specs.{Links.{found, known-stands}, Reading.{Reading}}
 
 abbrev pub unmarked : List Bool

@@ -1,5 +1,5 @@
 -- The proved cases of document 02, Point 12: one table, one theorem.
-use Rattle.lists.specs.Basics.{_≡_, refl, true, false, List, [], _∷_, here, there, ℕ, arith}
+use Rattle.lists.specs.Basics.{_≡_, refl, List, [], _∷_, here, there, ℕ, arith}
 use Rattle.precedes.specs.{declared.Processing.Processing, declared.Answer.the-variants.{Bad, Unknown, Yes, No}}
 use Rattle.precedes.specs.Precedes.{name, origin, named, stands, count, in-range, sender-known, tn-next, has-room, good, first-bad, bad-place, on-chare, through-sender, through, Right}
 use Rattle.lists.specs.Lists.{anyb, keep}

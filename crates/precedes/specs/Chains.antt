@@ -1,6 +1,6 @@
 -- A chain between two records exists exactly where links lead from the one back to the other.
-use Rattle.lists.specs.Basics.{_≡_, refl, sym, ap, _∙_, true, List, [], _∷_, _⊎_, inl, inr, here, there, ℕ, zero, suc, _+_, _-_, _<_, _≤_, arith, length, getD, take-length, take}
-use Rattle.lists.specs.{Tests.{eq?, lt?}, Lists.{_∈_}}
+use Rattle.lists.specs.Basics.{_≡_, refl, sym, ap, _∙_, true, List, [], _∷_, _⊎_, inl, inr, here, there, ℕ, zero, suc, _+_, _-_, _<_, _≤_, arith, length, getD}
+use Rattle.lists.specs.{Lists.{_∈_}}
 use Rattle.precedes.specs.{declared.Processing.Processing, Precedes.{Name, name, origin, stands, Chain, on-chare, through-sender, through}}
 use Rattle.precedes.specs.Rows.{rec, Is, Good, at-stands, stands-at, good-tn, good-chare, good-sender, is-low, low-is, once}
 

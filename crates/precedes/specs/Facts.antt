@@ -1,9 +1,9 @@
 -- What readers of the answers may expect of them: there is one right answer; what a chain joins stands in the row's order, so nothing
 -- precedes itself; which record is the first bad one.
-use Rattle.lists.specs.Basics.{_≡_, refl, sym, ap, _∙_, true, false, cond, List, [], _∷_, inl, inr, ℕ, zero, suc, _+_, _<_, _≤_, arith, length, take, drop, getD, take-length, drop-length}
+use Rattle.lists.specs.Basics.{_≡_, refl, sym, ap, _∙_, false, List, inl, inr, ℕ, zero, suc, _+_, _<_, _≤_, arith, length, take, drop}
 use Rattle.lists.specs.Tests.{either, eq?, lt?, true-not-false}
 use Rattle.precedes.specs.{declared.Processing.Processing, declared.Answer.Answer, declared.Answer.the-variants.{Bad, Unknown, Yes, No}}
-use Rattle.precedes.specs.Precedes.{Name, name, origin, stands, good, first-bad, bad-place, Chain, on-chare, through-sender, through, Right}
+use Rattle.precedes.specs.Precedes.{Name, name, origin, good, first-bad, bad-place, Chain, on-chare, through-sender, through, Right}
 use Rattle.precedes.specs.{Rows.{rec, Is, Good, stands-at, good-tn, good-chare, good-sender, is-low, once, above}, Chains.{named-in, end-stands}, Reading.{bad-start, bad-none, bad-next, bad-here, bad-past}}
 
 -- ---- the place of the first bad record

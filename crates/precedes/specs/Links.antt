@@ -1,11 +1,10 @@
 -- Reading a row record by record: where each name stands, and the links of each record.
-use Rattle.lists.specs.Basics.{_≡_, refl, sym, ap, _∙_, Bool, true, false, cond, _&&_, _||_, not, List, [], _∷_, _++_, _⊎_, inl, inr, ℕ, zero, suc, _+_, _-_, _*_, _<_, _≤_, arith}
-use Rattle.lists.specs.Basics.{and-false, eqb, leb, ltb, eqb-true, eqb-false, eq-eqb, ne-eqb, leb-true, leb-false, le-leb, lt-leb, lt-ltb, le-ltb, length, take, drop, getD, set, replicate, take-suc, drop-cons, length-set, getD-set-same, getD-set-other, length-replicate, length-take-le}
-use Rattle.lists.specs.Tests.{either, eq?, lt?, and-l, and-r, and-i, true-not-false}
-use Rattle.arrays.specs.ArrayMap.{as-map, map-blank}
-use Rattle.precedes.specs.{declared.Processing.Processing, Precedes.{Name, name, origin, stands, count, in-range, sender-known, tn-next, has-room, good, first-bad, bad-place}}
-use Rattle.precedes.specs.Rows.{rec, nobody, Is, Good, stands-before, before-stands, count-few, good-tn, good-chare, is-low, low-is}
-use Rattle.precedes.specs.{Chains.{Place, previous, Linked}, Visits.{Falls}}
+use Rattle.lists.specs.Basics.{_≡_, Bool, true, false, cond, _&&_, _||_, not, List, inl, inr, ℕ, _+_, _-_, _*_, _<_, _≤_, arith}
+use Rattle.lists.specs.Basics.{and-false, eqb, leb, eq-eqb, ne-eqb, leb-true, le-leb, lt-leb, lt-ltb, length, take, getD, set, getD-set-same, getD-set-other, length-take-le}
+use Rattle.lists.specs.Tests.{either, eq?, lt?, and-l, and-r, and-i}
+use Rattle.precedes.specs.{declared.Processing.Processing, Precedes.{Name, name, origin, stands, count, in-range, sender-known, tn-next, has-room, good}}
+use Rattle.precedes.specs.Rows.{rec, Good, stands-before, before-stands, is-low, low-is}
+use Rattle.precedes.specs.{Chains.{Place}}
 
 -- chares 1 to 12 with TNs 1 to 512 have a place in the table
 unfoldable pub tabled : Name → Bool

@@ -1,10 +1,10 @@
 -- The first i records of a row were read, and all are good.
-use Rattle.lists.specs.Basics.{_≡_, refl, sym, ap, _∙_, true, false, cond, List, [], _∷_, _++_, inl, inr, ℕ, zero, suc, _+_, _<_, _≤_, arith}
-use Rattle.lists.specs.Basics.{ltb, le-ltb, length, take, drop, getD, set, replicate, take-suc, take-length, drop-cons, drop-length, length-set, getD-set-same, getD-set-other, length-replicate, length-take-le}
+use Rattle.lists.specs.Basics.{_≡_, refl, sym, ap, _∙_, true, false, List, inl, inr, ℕ, suc, _+_, _-_, _<_, _≤_, arith}
+use Rattle.lists.specs.Basics.{cond, eqb, eq-eqb, ne-eqb, le-ltb, length, take, drop, getD, set, replicate, take-suc, drop-cons, drop-length, length-set, getD-set-same, getD-set-other, length-replicate, length-take-le}
 use Rattle.lists.specs.Tests.{either, eq?, lt?}
 use Rattle.arrays.specs.ArrayMap.{as-map, map-blank}
-use Rattle.precedes.specs.{declared.Processing.Processing, Precedes.{Name, name, origin, count, has-room, good, first-bad, bad-place}}
-use Rattle.precedes.specs.{Rows.{rec, nobody, Is, Good, count-few, good-tn, good-chare}, Chains.{Place, previous, Linked}, Visits.{Falls}}
+use Rattle.precedes.specs.{declared.Processing.Processing, Precedes.{Name, name, origin, has-room, good, first-bad, bad-place}}
+use Rattle.precedes.specs.{Rows.{rec, nobody, Good, count-few, good-tn, good-chare}, Chains.{Place, previous, Linked}, Visits.{Falls}}
 use Rattle.precedes.specs.Links.{tabled, slot, found, Knows, table-in, found-new, found-old}
 
 pub record Reading (row : List Processing) (i : ℕ) (at before sent : List ℕ) : Type 0 where
@@ -14,8 +14,20 @@ pub record Reading (row : List Processing) (i : ℕ) (at before sent : List ℕ)
   pub good-so-far : Good row i
   pub knows : Knows row i at
   pub linked : Linked row i before sent
-  pub before-falls : Falls before
-  pub sent-falls : Falls sent
+  pub before-blank : (j : ℕ) → i ≤ j → getD before j 0 ≡ 0
+  pub sent-blank : (j : ℕ) → i ≤ j → getD sent j 0 ≡ 0
+
+-- how many records were read where the first bad one stands at a place, or where none is bad (0)
+unfoldable pub read-to : List Processing → ℕ → ℕ
+read-to row place = cond (eqb place 0) (length row) (place - 1)
+
+pub read-all : (row : List Processing) (place : ℕ) → place ≡ 0 → read-to row place ≡ length row
+unfolding read-to
+read-all row place e = rw (eq-eqb place 0 e)
+
+pub read-some : (row : List Processing) (place i : ℕ) → place ≡ i + 1 → read-to row place ≡ i
+unfolding read-to
+read-some row place i e = rw (ne-eqb place 0 (λ z. omega (arith, z, e))) (omega arith)
 
 abbrev pub zeros : ℕ → List ℕ
 zeros n = replicate n 0
@@ -35,8 +47,8 @@ reading-none row = record {
   good-so-far = (omega arith, λ i l. absurd (omega arith));
   knows = λ n. inl (found-blank n, λ k l. absurd (omega arith));
   linked = record { to-before = λ i l. absurd (omega arith); to-sender = λ i l. absurd (omega arith) };
-  before-falls = λ i. omega (arith, blank 512 i);
-  sent-falls = λ i. omega (arith, blank 512 i);
+  before-blank = λ j l. blank 512 j;
+  sent-blank = λ j l. blank 512 j;
 }
 
 -- a place among the first i is at most i
@@ -51,11 +63,16 @@ links-more P links i v l old new j b = elim (eq? j i) [
   | inr d ↦ rw (getD-set-other links i j v 0 d) (old j (omega arith))
 ]
 
-falls-more : (links : List ℕ) (i v : ℕ) → i < length links → v ≤ i → Falls links → Falls (set links i v)
-falls-more links i v l b f j = elim (eq? j i) [
-  | inl e ↦ rw (e, getD-set-same links i v 0 l) b
-  | inr d ↦ rw (getD-set-other links i j v 0 d) (f j)
-]
+blank-more : (links : List ℕ) (i v : ℕ) → ((j : ℕ) → i ≤ j → getD links j 0 ≡ 0) → (j : ℕ) → suc i ≤ j → getD (set links i v) j 0 ≡ 0
+blank-more links i v f j l = getD-set-other links i j v 0 (λ e. omega (arith, e)) ∙ f j (omega arith)
+
+-- every link leads to an earlier record
+links-fall : (P : ℕ → Name) (row : List Processing) (links : List ℕ) (n : ℕ) → ((i : ℕ) → i < n → Place row i (P i) (getD links i 0)) → ((i : ℕ) → n ≤ i → getD links i 0 ≡ 0) → Falls links
+links-fall P row links n f g i = elim (lt? i n) [ inl l ↦ place-low row i (P i) _ (f i l) | inr l ↦ omega (arith, g i l) ]
+
+pub reading-falls : {row : List Processing} {i : ℕ} {at before sent : List ℕ} → Reading row i at before sent → Falls before × Falls sent
+reading-falls {row} {i} {at} {before} {sent} r =
+    (links-fall (λ j. previous (rec row j)) row before i (r .linked .to-before) (r .before-blank), links-fall (λ j. origin (rec row j)) row sent i (r .linked .to-sender) (r .sent-blank))
 
 module _ (row : List Processing) (i : ℕ) (at before sent : List ℕ) (r : Reading row i at before sent) (l : i < length row) (room : i < 512) (g : good (take i row) (rec row i) ≡ true) where
   abbrev the : Name
@@ -105,8 +122,8 @@ module _ (row : List Processing) (i : ℕ) (at before sent : List ℕ) (r : Read
           to-before = links-more (λ j v. Place row j (previous (rec row j)) v) before i _ lb (r .linked .to-before) b;
           to-sender = links-more (λ j v. Place row j (origin (rec row j)) v) sent i _ ls (r .linked .to-sender) s;
         };
-        before-falls = falls-more before i _ lb (place-low row i _ _ b) (r .before-falls);
-        sent-falls = falls-more sent i _ ls (place-low row i _ _ s) (r .sent-falls);
+        before-blank = blank-more before i _ (r .before-blank);
+        sent-blank = blank-more sent i _ (r .sent-blank);
       }
 
 -- ---- the place of the first bad record

@@ -1,8 +1,8 @@
 -- What the rules give where the first n records of a row are good: a chare's processings stand in the order of their TNs, each once.
-use Rattle.lists.specs.Basics.{_≡_, refl, sym, ap, _∙_, Bool, true, false, cond, _&&_, _||_, List, [], _∷_, _++_, _⊎_, inl, inr, ℕ, zero, suc, _+_, _-_, _<_, _≤_, arith}
-use Rattle.lists.specs.Basics.{eqb, leb, ltb, eqb-true, eq-eqb, ne-eqb, leb-true, ltb-true, length, take, getD, take-suc, getD-take, length-take-le, length-append}
+use Rattle.lists.specs.Basics.{_≡_, refl, sym, _∙_, true, cond, List, [], _∷_, _⊎_, inl, inr, ℕ, zero, suc, _+_, _-_, _<_, _≤_, arith}
+use Rattle.lists.specs.Basics.{eqb, leb, eqb-true, eq-eqb, ne-eqb, leb-true, ltb-true, length, take, getD, take-suc, getD-take, length-take-le, length-append}
 use Rattle.lists.specs.{Tests.{either, eq?, lt?, and-l, and-r, and-i, and4, or-cases, or-l, or-r, true-not-false}, Lists.{anyb, keep, keep-append}}
-use Rattle.precedes.specs.{declared.Processing.Processing, Precedes.{Name, name, origin, named, stands, count, in-range, sender-known, tn-next, has-room, good}}
+use Rattle.precedes.specs.{declared.Processing.Processing, Precedes.{Name, origin, named, stands, count, in-range, sender-known, tn-next, has-room, good}}
 
 -- no processing: what stands past the end
 abbrev pub nobody : Processing

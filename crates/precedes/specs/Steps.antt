@@ -1,9 +1,8 @@
 -- The loop that reads a table: the first i records of its row were read, and all are good.
-use Rattle.lists.specs.Basics.{_≡_, refl, sym, ap, subst, _∙_, true, false, List, inl, inr, ℕ, zero, suc, _+_, _<_, _≤_, min, arith, length, take, drop, getD, set, add-one, length-replicate}
-use Rattle.lists.specs.Tests.{lt?}
+use Rattle.lists.specs.Basics.{_≡_, refl, sym, ap, _∙_, true, false, List, ℕ, suc, _+_, _<_, _≤_, min, arith, length, take, drop, getD, set, add-one, length-replicate}
 use Rattle.precedes.specs.{declared.Processing.Processing, declared.Table.Table, Precedes.{name, origin, good, first-bad, bad-place}, Rows.{nobody, rec}, Chains.previous}
 use Rattle.precedes.specs.{Tables.{held, held-length, held-record}, Links.{tabled, slot, found, admits, admits-right}}
-use Rattle.precedes.specs.Reading.{Reading, zeros, reading-none, reading-more, the-tabled, bad-start, bad-none, bad-next, bad-here, bad-past}
+use Rattle.precedes.specs.Reading.{Reading, read-to, read-all, read-some, zeros, reading-none, reading-more, the-tabled, bad-start, bad-none, bad-next, bad-here, bad-past}
 
 pub record So-far (t : Table) (n i : ℕ) (at before sent : List ℕ) : Type 0 where
   pub long : length (t .records) ≡ 512
@@ -30,17 +29,17 @@ module _ {t : Table} {n i : ℕ} {at before sent : List ℕ} (s : So-far t n i a
   row-length = held-length t (s .long) ∙ rw (s .count)
 
   -- all records were read
-  pub all-read : n ≤ i → (0 ≡ bad-place (held t)) × Reading (held t) (length (held t)) at before sent
+  pub all-read : n ≤ i → (0 ≡ bad-place (held t)) × Reading (held t) (read-to (held t) 0) at before sent
   all-read e =
       let whole : i ≡ length (held t) = omega (arith, row-length, s .low) in
-      (sym (s .place ∙ rw whole (bad-none (held t))), rw (sym whole) (s .reading))
+      (sym (s .place ∙ rw whole (bad-none (held t))), rw (read-all (held t) 0 refl, sym whole) (s .reading))
 
   module _ (more : i < n) where
     in-row : i < length (held t)
     in-row = omega (arith, row-length, s .low)
 
-    pub past-bad : i ≡ 512 → 513 ≡ bad-place (held t)
-    past-bad e = sym (s .place ∙ bad-here (held t) i in-row (bad-past (held t) i in-row (omega arith)) ∙ omega arith)
+    pub past-bad : i ≡ 512 → (513 ≡ bad-place (held t)) × Reading (held t) (read-to (held t) 513) at before sent
+    past-bad e = (sym (s .place ∙ bad-here (held t) i in-row (bad-past (held t) i in-row (omega arith)) ∙ omega arith), rw (read-some (held t) 513 i (omega arith)) (s .reading))
 
     module _ (room : i ≡ 512 → ⊥) where
       inside : i < 512
@@ -56,8 +55,8 @@ module _ {t : Table} {n i : ℕ} {at before sent : List ℕ} (s : So-far t n i a
       tested : admits at p ≡ good (take i (held t)) (rec (held t) i)
       tested = ap (admits at) (sym the-record) ∙ admits-right (held t) i at (s .reading .good-so-far) (s .reading .knows) inside
 
-      pub one-bad : admits at p ≡ false → i + 1 ≡ bad-place (held t)
-      one-bad e = sym (s .place ∙ bad-here (held t) i in-row (sym tested ∙ e))
+      pub one-bad : admits at p ≡ false → (i + 1 ≡ bad-place (held t)) × Reading (held t) (read-to (held t) (i + 1)) at before sent
+      one-bad e = (sym (s .place ∙ bad-here (held t) i in-row (sym tested ∙ e)), rw (read-some (held t) (i + 1) i refl) (s .reading))
 
       module _ (e : admits at p ≡ true) where
         fine : good (take i (held t)) (rec (held t) i) ≡ true
@@ -66,11 +65,12 @@ module _ {t : Table} {n i : ℕ} {at before sent : List ℕ} (s : So-far t n i a
         pub record-tabled : tabled (name p) ≡ true
         record-tabled = rw (sym the-record) (the-tabled (held t) i at before sent (s .reading) in-row inside fine)
 
-        pub one-more : So-far t n (i + 1) (set at (slot (name p)) (suc i)) (set before i (found at (previous p))) (set sent i (found at (origin p)))
-        one-more = record {
+        pub one-more : {at′ before′ sent′ : List ℕ} → at′ ≡ set at (slot (name p)) (suc i) → before′ ≡ set before i (found at (previous p)) → sent′ ≡ set sent i (found at (origin p))
+            → So-far t n (i + 1) at′ before′ sent′
+        one-more a b c = rw (a, b, c) (record {
           long = s .long;
           count = s .count;
           low = omega (arith, s .low, inside);
           reading = rw (add-one i, sym the-record) (reading-more (held t) i at before sent (s .reading) in-row inside fine);
           place = s .place ∙ rw (add-one i) (bad-next (held t) i in-row fine);
-        }
+        })

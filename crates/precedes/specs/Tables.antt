@@ -1,6 +1,6 @@
 -- A lent row as the table that it is loaded into: the first 512 records, and whether there are more.
-use Rattle.lists.specs.Basics.{_≡_, refl, sym, ap, subst, _∙_, true, false, cond, List, [], _∷_, _++_, inl, inr, ℕ, zero, suc, _+_, _-_, _<_, _≤_, min, arith}
-use Rattle.lists.specs.Basics.{ltb, lt-ltb, le-ltb, length, take, getD, set, replicate, length-set, length-append, append-nil, append-assoc, length-replicate, add-one, take-suc, take-suc-set, take-all, take-append-le, take-length, length-take-le, getD-take, List·getD-append, length-take}
+use Rattle.lists.specs.Basics.{_≡_, refl, sym, ap, _∙_, cond, List, [], _∷_, _++_, inl, inr, ℕ, zero, suc, _+_, _-_, _<_, _≤_, min, arith}
+use Rattle.lists.specs.Basics.{ltb, lt-ltb, le-ltb, length, take, getD, set, replicate, length-set, length-append, append-nil, append-assoc, length-replicate, add-one, take-suc-set, take-all, take-append-le, take-length, length-take-le, getD-take, List·getD-append, length-take}
 use Rattle.lists.specs.Tests.{either, lt?}
 use Rattle.precedes.specs.{declared.Processing.Processing, declared.Table.Table, declared.Answer.Answer, declared.Answer.the-variants.{Bad, Unknown, Yes, No}, Precedes.{Name, has-room, good, first-bad, bad-place, Right}}
 use Rattle.precedes.specs.{Rows.{nobody, rec}}

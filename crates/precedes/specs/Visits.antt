@@ -1,6 +1,6 @@
 -- What a visit of a record marks: itself, and all that links lead back to.
-use Rattle.lists.specs.Basics.{_≡_, refl, sym, _∙_, Bool, true, false, List, _⊎_, inl, inr, ℕ, zero, suc, _-_, _<_, _≤_, arith, length, getD, set, getD-set-same, getD-set-other}
-use Rattle.lists.specs.Tests.{eq?, true-not-false}
+use Rattle.lists.specs.Basics.{_≡_, sym, _∙_, Bool, true, false, List, _⊎_, inl, inr, ℕ, suc, _-_, _<_, _≤_, arith, length, getD, set, getD-set-same, getD-set-other}
+use Rattle.lists.specs.Tests.{eq?}
 use Rattle.precedes.specs.Chains.{Reach, itself, by-before, by-sender, reach-on}
 
 abbrev pub Marked : List Bool → ℕ → Type 0

@@ -7,7 +7,7 @@ ghost use Rattle.precedes.specs.Precedes.{name, origin, bad-place};
 ghost use Rattle.precedes.specs.Chains.{previous};
 ghost use Rattle.precedes.specs.Tables.{held};
 ghost use Rattle.precedes.specs.Links.{tabled, slot, found, next-by, sent-by, admits};
-ghost use Rattle.precedes.specs.Reading.{zeros, Reading};
+ghost use Rattle.precedes.specs.Reading.{Reading, read-to, zeros};
 use crate::Processing;
 use crate::Table;
 
@@ -91,11 +91,11 @@ fn put(p: Processing, i: u16, at: &mut [u16], before: &mut [u16], sent: &mut [u1
     at[slot(p.chare, p.tn)] = i + 1;
 }
 
-// The place of the first bad record, or 0: then every record is linked.
+// The place of the first bad record, or 0; all records before it are linked.
 pub fn link(t: Table, at: &mut [u16], before: &mut [u16], sent: &mut [u16]) -> u16
     requires { ⌜ (now at ≡ zeros 6144) × (now before ≡ zeros 512) × (now sent ≡ zeros 512) ⌝ }
     ensures place { λ r. ⌜ r ≡ bad-place (held t) ⌝ }
-    ensures links { λ r. ⌜ (r ≡ 0 → Reading (held t) (length (held t)) (now (at .exit)) (now (before .exit)) (now (sent .exit))) ⌝ }
+    ensures links { λ r. ⌜ Reading (held t) (read-to (held t) r) (now (at .exit)) (now (before .exit)) (now (sent .exit)) ⌝ }
 {
     let n = t.len;
     let mut i: u16 = 0;

@@ -1,15 +1,11 @@
 -- `links::find` meets its contract: a name outside the table has no place, and another's is read at its slot.
 -- Assumes nothing.
 use borrow.Author.Needs.{needs}
-use Rattle.lists.specs.Basics.{_∙_, ap, inl, inr, _≤_, arith, eqb-true, eqb-false, ltb-true, ltb-false, getD}
+use Rattle.lists.specs.Basics.{inl, inr, _≤_, arith, eqb-true, eqb-false, ltb-true, ltb-false}
 use Rattle.precedes.specs.Links.{found-in, found-out}
 use Rattle.precedes.proofs.links.find.Statement.{statement}
 use Rattle.precedes.proofs.links.find.Tie as tie
-use Rattle.precedes.proofs.links.find.Reads as reads
-use Rattle.precedes.proofs.links.find.Lts as lts
-use Rattle.precedes.proofs.links.slot.Reads as slot-reads
 
--- src/links.rt:28:9
 returns : tie.Need-returns
 returns c = let x = c .before .before .args in found-out (x .at .now) (x .chare, x .tn) (λ r. elim (c .if1 .came) [
   | inl a ↦ omega (arith, a .taken, r .0)
@@ -18,29 +14,23 @@ returns c = let x = c .before .before .args in found-out (x .at .now) (x .chare,
   | inr (inr (inr a)) ↦ omega (arith, ltb-true 512 (x .tn) (a .3 .taken), r .3)
 ])
 
+abbrev start : tie.Else4 → tie.Start
+start c = c .before .before .before .before .before
+
 -- past the tests the name is in the table
-inside : (c : lts.Else4 (slot-reads.Asked, slot-reads.Learnt) reads.Pre reads.Post)
-    → let x = c .before .before .before .before .before .args in (1 ≤ x .chare) × (x .chare ≤ 12) × (1 ≤ x .tn) × (x .tn ≤ 512)
-inside c = let x = c .before .before .before .before .before .args in
+inside : (c : tie.Else4) → let x = start c .args in (1 ≤ x .chare) × (x .chare ≤ 12) × (1 ≤ x .tn) × (x .tn ≤ 512)
+inside c = let x = start c .args in
     (omega (arith, c .before .before .before .if1 .left), ltb-false 12 (x .chare) (c .before .before .if2 .left), omega (arith, eqb-false (x .tn) 0 (c .before .if3 .left)), ltb-false 512 (x .tn) (c .if4 .left))
 
--- src/links.rt:30:8
 slot-requires : tie.Need-slot-requires
 slot-requires c κs = let i = inside c in (i .0, i .2)
 
--- src/links.rt:30:5
-mul-result : tie.Need-mul-result
-mul-result c = search needs
+read-at : tie.Need-shared-slice-read-result
+read-at c = let e = c .before .before in let i = inside e in omega (arith, c .before .slot .ensures, i .0, i .1, i .2, i .3, start e .pre)
 
--- src/links.rt:30:5
-shared-slice-read-result : tie.Need-shared-slice-read-result
-shared-slice-read-result c = let i = inside (c .before .before) in
-    omega (arith, c .before .slot .ensures, i .0, i .1, i .2, i .3, c .before .before .before .before .before .before .before .pre)
-
--- src/links.rt:23:1
 returns-2 : tie.Need-returns-2
-returns-2 c = let x = c .before .before .before .before .before .before .before .args in let i = inside (c .before .before) in
+returns-2 c = let e = c .before .before in let x = start e .args in let i = inside e in
     rw (c .before .slot .ensures) (found-in (x .at .now) (x .chare, x .tn) (i .0) (i .1) (i .2) (i .3))
 
 pub find-spec : {M : Type 1} → statement M
-find-spec = tie.close (tie.spec returns slot-requires mul-result shared-slice-read-result returns-2)
+find-spec = tie.close (tie.spec returns slot-requires (λ c. search needs) read-at returns-2)

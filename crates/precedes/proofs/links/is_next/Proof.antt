@@ -1,45 +1,35 @@
 -- `links::is_next` meets its contract. Assumes nothing.
 use borrow.Author.Needs.{needs}
-use Rattle.lists.specs.Basics.{_∙_, sym, ap, arith, eq-eqb, ne-eqb, le-leb}
+use Rattle.lists.specs.Basics.{_≡_, sym, true, arith, leb, eq-eqb, ne-eqb, le-leb}
 use Rattle.precedes.specs.Links.{next-by}
 use Rattle.precedes.proofs.links.is_next.Statement.{statement}
 use Rattle.precedes.proofs.links.is_next.Tie as tie
-use Rattle.precedes.proofs.links.is_next.Reads as reads
-use Rattle.precedes.proofs.links.is_next.Lts as lts
-use Rattle.precedes.proofs.links.find.Reads as find-reads
 
--- src/links.rt:39:9
+-- the first call of `find`, and the start
+abbrev start : tie.After-find → tie.Start
+start c = c .before .before .before
+
+positive : (c : tie.After-find) → leb 1 (start c .args .tn) ≡ true
+positive c = le-leb 1 (start c .args .tn) (omega (arith, c .before .if1 .left))
+
 returns : tie.Need-returns
-returns c = unfold next-by in rw (c .if1 .taken)
+unfolding next-by
+returns c = rw (c .if1 .taken)
 
--- src/links.rt:41:8
-find-requires : tie.Need-find-requires
-find-requires c κs = search needs
-
--- src/links.rt:42:9
 returns-2 : tie.Need-returns-2
-returns-2 c = unfold next-by in
-    rw (le-leb 1 (c .before .before .before .before .args .tn) (omega (arith, c .before .before .if1 .left)), sym (c .before .find .ensures), ne-eqb _ 0 (c .if2 .taken))
+unfolding next-by
+returns-2 c = let f = c .before in rw (positive f, sym (f .find .ensures), ne-eqb _ 0 (c .if2 .taken))
 
--- src/links.rt:45:9
 returns-3 : tie.Need-returns-3
-returns-3 c = unfold next-by in
-    rw (le-leb 1 (c .before .before .before .before .before .args .tn) (omega (arith, c .if3 .taken)), sym (c .before .before .find .ensures), eq-eqb _ 0 (c .before .if2 .left), eq-eqb _ 1 (c .if3 .taken))
+unfolding next-by
+returns-3 c = let f = c .before .before in rw (positive f, sym (f .find .ensures), eq-eqb _ 0 (c .before .if2 .left), eq-eqb _ 1 (c .if3 .taken))
 
--- src/links.rt:47:21
-sub-find : tie.Need-sub-find
-sub-find c = search needs
-
--- src/links.rt:47:5
-find-requires-2 : tie.Need-find-requires-2
-find-requires-2 c κs = search needs
-
--- src/links.rt:34:1
 returns-4 : tie.Need-returns-4
-returns-4 c = unfold next-by in
-    rw (le-leb 1 (c .before .before .before .before .before .before .args .tn) (omega (arith, c .before .before .before .before .if1 .left)), sym (c .before .before .before .find .ensures), eq-eqb _ 0 (c .before .before .if2 .left), ne-eqb _ 1 (c .before .if3 .left), c .find2 .ensures)
+unfolding next-by
+returns-4 c = let f = c .before .before .before in
+    rw (positive f, sym (f .find .ensures), eq-eqb _ 0 (c .before .before .if2 .left), ne-eqb _ 1 (c .before .if3 .left), c .find2 .ensures)
 
 pub is-next-spec : {M : Type 1} → statement M
 is-next-spec =
     tie.close
-    (tie.spec returns find-requires returns-2 returns-3 sub-find find-requires-2 returns-4)
+    (tie.spec returns (λ c κs. search needs) returns-2 returns-3 (λ c. search needs) (λ c κs. search needs) returns-4)

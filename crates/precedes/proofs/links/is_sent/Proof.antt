@@ -4,21 +4,12 @@ use Rattle.lists.specs.Basics.{eq-eqb, ne-eqb}
 use Rattle.precedes.specs.Links.{sent-by}
 use Rattle.precedes.proofs.links.is_sent.Statement.{statement}
 use Rattle.precedes.proofs.links.is_sent.Tie as tie
-use Rattle.precedes.proofs.links.is_sent.Reads as reads
-use Rattle.precedes.proofs.links.is_sent.Lts as lts
-use Rattle.precedes.proofs.links.find.Reads as find-reads
 
--- src/links.rt:56:9
 returns : tie.Need-returns
 returns c = unfold sent-by in rw (eq-eqb _ 0 (c .if1 .taken))
 
--- src/links.rt:58:5
-find-requires : tie.Need-find-requires
-find-requires c κs = search needs
-
--- src/links.rt:51:1
 returns-2 : tie.Need-returns-2
 returns-2 c = unfold sent-by in rw (ne-eqb _ 0 (c .before .if1 .left), c .find .ensures)
 
 pub is-sent-spec : {M : Type 1} → statement M
-is-sent-spec = tie.close (tie.spec returns find-requires returns-2)
+is-sent-spec = tie.close (tie.spec returns (λ c κs. search needs) returns-2)
