@@ -6,7 +6,10 @@ use Rattle.precedes.specs.{declared.Processing.Processing, Precedes.{Nam
 use Rattle.precedes.specs.Rows.{rec, Good, stands-before, before-stands, is-low, low-is}
 use Rattle.precedes.specs.{Chains.{Place}}
 
--- chares 1 to 12 with TNs 1 to 512 have a place in the table
+-- the table of places has a slot for each of the TNs 1 to 512 of the chares 1 to 12
+abbrev pub SLOTS : ℕ
+SLOTS = 6144
+
 unfoldable pub tabled : Name → Bool
 tabled n = leb 1 (n .0) && leb (n .0) 12 && leb 1 (n .1) && leb (n .1) 512
 
@@ -44,7 +47,7 @@ unfolding found
 found-out at n h = either (tabled n) (λ e. absurd (h (in-table n e))) (λ e. rw e)
 
 -- one slot is written
-module _ (at : List ℕ) (m : Name) (v : ℕ) (long : length at ≡ 6144) (t : tabled m ≡ true) where
+module _ (at : List ℕ) (m : Name) (v : ℕ) (long : length at ≡ SLOTS) (t : tabled m ≡ true) where
   slot-low : slot m < length at
   slot-low = let r = in-table m t in omega (arith, long, r .0, r .1, r .2, r .3)
 

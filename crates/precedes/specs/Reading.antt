@@ -5,10 +5,10 @@ use Rattle.lists.specs.Tests.{either, eq?, lt?}
 use Rattle.arrays.specs.ArrayMap.{as-map, map-blank}
 use Rattle.precedes.specs.{declared.Processing.Processing, Precedes.{Name, name, origin, has-room, good, first-bad, bad-place}}
 use Rattle.precedes.specs.{Rows.{rec, nobody, Good, count-few, good-tn, good-chare}, Chains.{Place, previous, Linked}, Visits.{Falls}}
-use Rattle.precedes.specs.Links.{tabled, slot, found, Knows, table-in, found-new, found-old}
+use Rattle.precedes.specs.Links.{SLOTS, tabled, slot, found, Knows, table-in, found-new, found-old}
 
 pub record Reading (row : List Processing) (i : ℕ) (at before sent : List ℕ) : Type 0 where
-  pub at-long : length at ≡ 6144
+  pub at-long : length at ≡ SLOTS
   pub before-long : length before ≡ 512
   pub sent-long : length sent ≡ 512
   pub good-so-far : Good row i
@@ -35,13 +35,13 @@ zeros n = replicate n 0
 blank : (n i : ℕ) → getD (zeros n) i 0 ≡ 0
 blank n i = unfold as-map in ap (λ (f : ℕ → ℕ). f i) (map-blank 0 n)
 
-found-blank : (n : Name) → found (zeros 6144) n ≡ 0
+found-blank : (n : Name) → found (zeros SLOTS) n ≡ 0
 unfolding found
-found-blank n = either (tabled n) (λ e. rw e (blank 6144 (slot n))) (λ e. rw e)
+found-blank n = either (tabled n) (λ e. rw e (blank SLOTS (slot n))) (λ e. rw e)
 
-pub reading-none : (row : List Processing) → Reading row 0 (zeros 6144) (zeros 512) (zeros 512)
+pub reading-none : (row : List Processing) → Reading row 0 (zeros SLOTS) (zeros 512) (zeros 512)
 reading-none row = record {
-  at-long = length-replicate {A = ℕ} 6144 0;
+  at-long = length-replicate {A = ℕ} SLOTS 0;
   before-long = length-replicate {A = ℕ} 512 0;
   sent-long = length-replicate {A = ℕ} 512 0;
   good-so-far = (omega arith, λ i l. absurd (omega arith));

@@ -1,7 +1,7 @@
 -- The loop that reads a table: the first i records of its row were read, and all are good.
 use Rattle.lists.specs.Basics.{_≡_, refl, sym, ap, _∙_, true, false, List, ℕ, suc, _+_, _<_, _≤_, min, arith, length, take, drop, getD, set, add-one, length-replicate}
 use Rattle.precedes.specs.{declared.Processing.Processing, declared.Table.Table, Precedes.{name, origin, good, first-bad, bad-place}, Rows.{nobody, rec}, Chains.previous}
-use Rattle.precedes.specs.{Tables.{held, held-length, held-record}, Links.{tabled, slot, found, admits, admits-right}}
+use Rattle.precedes.specs.{Tables.{held, held-length, held-record}, Links.{SLOTS, tabled, slot, found, admits, admits-right}}
 use Rattle.precedes.specs.Reading.{Reading, read-to, read-all, read-some, zeros, reading-none, reading-more, the-tabled, bad-start, bad-none, bad-next, bad-here, bad-past}
 
 pub record So-far (t : Table) (n i : ℕ) (at before sent : List ℕ) : Type 0 where
@@ -11,13 +11,13 @@ pub record So-far (t : Table) (n i : ℕ) (at before sent : List ℕ) : Type 0 w
   pub reading : Reading (held t) i at before sent
   pub place : bad-place (held t) ≡ first-bad (take i (held t)) (drop i (held t))
 
-pub none-read : (t : Table) → length (t .records) ≡ 512 → So-far t (t .len) 0 (zeros 6144) (zeros 512) (zeros 512)
+pub none-read : (t : Table) → length (t .records) ≡ 512 → So-far t (t .len) 0 (zeros SLOTS) (zeros 512) (zeros 512)
 none-read t long = record { long = long; count = refl; low = omega arith; reading = reading-none (held t); place = bad-start (held t) }
 
 module _ {t : Table} {n i : ℕ} {at before sent : List ℕ} (s : So-far t n i at before sent) where
   -- the lent arrays keep their lengths
-  pub at-kept : (l : List ℕ) → l ≡ zeros 6144 → length at ≡ length l
-  at-kept l e = s .reading .at-long ∙ sym (ap length e ∙ length-replicate {A = ℕ} 6144 0)
+  pub at-kept : (l : List ℕ) → l ≡ zeros SLOTS → length at ≡ length l
+  at-kept l e = s .reading .at-long ∙ sym (ap length e ∙ length-replicate {A = ℕ} SLOTS 0)
 
   pub before-kept : (l : List ℕ) → l ≡ zeros 512 → length before ≡ length l
   before-kept l e = s .reading .before-long ∙ sym (ap length e ∙ length-replicate {A = ℕ} 512 0)

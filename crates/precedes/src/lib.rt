@@ -2,6 +2,7 @@
 ghost use mathlib.Core.Path.{_≡_};
 ghost use Rattle.precedes.specs.Precedes.{Right, number};
 ghost use Rattle.precedes.specs.Tables.{empty, pushed, pushed-all, held};
+use crate::links::SLOTS;
 use crate::links::find;
 use crate::links::link;
 use crate::past::visit;
@@ -82,7 +83,7 @@ fn load(row: &[Processing], t: Table) -> Table
 fn decide(t: Table, chare: u8, tn: u16, later_chare: u8, later_tn: u16) -> Answer
     ensures { λ r. ⌜ Right (held t) (chare, tn) («later_chare», «later_tn») r ⌝ }
 {
-    let mut at = [0u16; 6144];
+    let mut at = [0u16; SLOTS];
     let mut before = [0u16; 512];
     let mut sent = [0u16; 512];
     let bad = link(t, &mut at, &mut before, &mut sent);

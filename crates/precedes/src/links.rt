@@ -6,10 +6,13 @@ ghost use lib.ListN.{length, set};
 ghost use Rattle.precedes.specs.Precedes.{name, origin, bad-place};
 ghost use Rattle.precedes.specs.Chains.{previous};
 ghost use Rattle.precedes.specs.Tables.{held};
-ghost use Rattle.precedes.specs.Links.{tabled, slot, found, next-by, sent-by, admits};
+ghost use Rattle.precedes.specs.Links.{SLOTS, tabled, slot, found, next-by, sent-by, admits};
 ghost use Rattle.precedes.specs.Reading.{Reading, read-to, zeros};
 use crate::Processing;
 use crate::Table;
+
+// A slot for each of the TNs 1 to 512 of the chares 1 to 12.
+pub const SLOTS: usize = 6144;
 
 // Where the table has the place of a chare's processing with this TN.
 fn slot(chare: u8, tn: u16) -> usize
@@ -21,7 +24,7 @@ fn slot(chare: u8, tn: u16) -> usize
 
 // The place of a chare's processing with this TN among the records read so far, counted from 1; 0 where it is not among them.
 pub fn find(at: &[u16], chare: u8, tn: u16) -> u16
-    requires { ⌜ length (now at) ≡ 6144 ⌝ }
+    requires { ⌜ length (now at) ≡ SLOTS ⌝ }
     ensures { λ r. ⌜ r ≡ found (now (at .entry)) (chare, tn) ⌝ }
 {
     if chare == 0 || 12 < chare || tn == 0 || 512 < tn {
@@ -32,7 +35,7 @@ pub fn find(at: &[u16], chare: u8, tn: u16) -> u16
 
 // Is it the chare's next TN? It was not read yet, and the one below it was, or it is 1.
 fn is_next(at: &[u16], chare: u8, tn: u16) -> bool
-    requires { ⌜ length (now at) ≡ 6144 ⌝ }
+    requires { ⌜ length (now at) ≡ SLOTS ⌝ }
     ensures { λ r. ⌜ r ≡ next-by (now (at .entry)) chare tn ⌝ }
 {
     if tn == 0 {
@@ -49,7 +52,7 @@ fn is_next(at: &[u16], chare: u8, tn: u16) -> bool
 
 // Did the desk or a record that was read send the message?
 fn is_sent(at: &[u16], sender: u8, tn: u16) -> bool
-    requires { ⌜ length (now at) ≡ 6144 ⌝ }
+    requires { ⌜ length (now at) ≡ SLOTS ⌝ }
     ensures { λ r. ⌜ r ≡ sent-by (now (at .entry)) sender tn ⌝ }
 {
     if sender == 0 {
@@ -60,7 +63,7 @@ fn is_sent(at: &[u16], sender: u8, tn: u16) -> bool
 
 // May the record stand behind those that were read?
 fn good(at: &[u16], p: Processing) -> bool
-    requires { ⌜ length (now at) ≡ 6144 ⌝ }
+    requires { ⌜ length (now at) ≡ SLOTS ⌝ }
     ensures { λ r. ⌜ r ≡ admits (now (at .entry)) p ⌝ }
 {
     if p.chare == 0 {
@@ -80,7 +83,7 @@ fn good(at: &[u16], p: Processing) -> bool
 
 // Links record i, a good one, and puts its place into the table.
 fn put(p: Processing, i: u16, at: &mut [u16], before: &mut [u16], sent: &mut [u16])
-    requires { ⌜ (length (now at) ≡ 6144) × (i < length (now before)) × (i < length (now sent)) × (i < 512) ⌝ }
+    requires { ⌜ (length (now at) ≡ SLOTS) × (i < length (now before)) × (i < length (now sent)) × (i < 512) ⌝ }
     requires { ⌜ tabled (name p) ≡ true ⌝ }
     ensures at { λ _. ⌜ now (at .exit) ≡ set (now (at .entry)) (slot (name p)) (suc i) ⌝ }
     ensures before { λ _. ⌜ now (before .exit) ≡ set (now (before .entry)) i (found (now (at .entry)) (previous p)) ⌝ }
@@ -93,7 +96,7 @@ fn put(p: Processing, i: u16, at: &mut [u16], before: &mut [u16], sent: &mut [u1
 
 // The place of the first bad record, or 0; all records before it are linked.
 pub fn link(t: Table, at: &mut [u16], before: &mut [u16], sent: &mut [u16]) -> u16
-    requires { ⌜ (now at ≡ zeros 6144) × (now before ≡ zeros 512) × (now sent ≡ zeros 512) ⌝ }
+    requires { ⌜ (now at ≡ zeros SLOTS) × (now before ≡ zeros 512) × (now sent ≡ zeros 512) ⌝ }
     ensures place { λ r. ⌜ r ≡ bad-place (held t) ⌝ }
     ensures links { λ r. ⌜ Reading (held t) (read-to (held t) r) (now (at .exit)) (now (before .exit)) (now (sent .exit)) ⌝ }
 {
