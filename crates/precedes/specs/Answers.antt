@@ -1,16 +1,15 @@
 -- From what was found and marked to the right answer.
 use Rattle.lists.specs.Basics.{_≡_, sym, ap, _∙_, Bool, true, false, _&&_, not, List, _⊎_, inl, inr, ℕ, suc, _-_, _<_, _≤_, arith, length, take-length, replicate, eqb, eq-eqb, ne-eqb, and-false}
 use Rattle.lists.specs.Tests.{and-i, true-not-false}
-use Rattle.arrays.specs.ArrayMap.{as-map, map-blank}
 use Rattle.precedes.specs.{declared.Processing.Processing, declared.Answer.the-variants.{Unknown, Yes, No}, Precedes.{Name, stands, bad-place, Right}}
-use Rattle.precedes.specs.{Rows.{Is, good-room}, Chains.{reach-chain, chain-reach}, Visits.{Marked, Whole, Visited}}
-use Rattle.precedes.specs.{Links.{found, known-stands}, Reading.{Reading}}
+use Rattle.precedes.specs.{Rows.{Is, good-room}, Chains.{chain-forward, reach-chain, chain-reach}, Visits.{Marked, Whole, Visited}}
+use Rattle.precedes.specs.{Links.{found, known-stands}, Reading.{Reading, blank}}
 
 abbrev pub unmarked : List Bool
 unmarked = replicate 512 false
 
 pub none-marked : (k : ℕ) → Marked unmarked k → ⊥
-none-marked k m = true-not-false m (unfold as-map in ap (λ (f : ℕ → Bool). f k) (map-blank false 512))
+none-marked k m = true-not-false m (blank false 512 k)
 
 pub whole-unmarked : (before sent : List ℕ) (place : ℕ) → Whole before sent unmarked place
 whole-unmarked before sent place k m l h r = absurd (none-marked k h)
@@ -68,9 +67,8 @@ module _ {row : List Processing} {at before sent : List ℕ} (r : Reading row (l
         both-stand,
         λ c.
             let p = the-record a first fa (omega (arith, sa)) in let q = the-record b second fb (omega (arith, sb)) in
-            let s = chain-reach row before sent (r .good-so-far) (r .linked) (p .0) (q .0) (p .1) (q .1) (p .3) (q .3) c in
             elim h [
-              | inl e ↦ omega (arith, e, p .2, q .2, s .0)
-              | inr n ↦ let e : first - 1 ≡ p .0 = omega (arith, p .2) in n (rw e (v .past (p .0) (q .0, q .2, s .1)))
+              | inl e ↦ omega (arith, e, p .2, q .2, chain-forward row (r .good-so-far) (p .0) (q .0) (p .1) (q .1) (p .3) (q .3) c)
+              | inr n ↦ let e : first - 1 ≡ p .0 = omega (arith, p .2) in n (rw e (v .past (p .0) (q .0, q .2, chain-reach row before sent (r .good-so-far) (r .linked) (p .0) (q .0) (p .1) (q .1) (p .3) (q .3) c)))
             ],
       )

@@ -1,8 +1,8 @@
 -- A chain between two records exists exactly where links lead from the one back to the other.
 use Rattle.lists.specs.Basics.{_≡_, refl, sym, ap, _∙_, true, List, [], _∷_, _⊎_, inl, inr, here, there, ℕ, zero, suc, _+_, _-_, _<_, _≤_, arith, length, getD}
-use Rattle.lists.specs.{Lists.{_∈_}}
+use Rattle.lists.specs.{Tests.{eq?, lt?}, Lists.{_∈_}}
 use Rattle.precedes.specs.{declared.Processing.Processing, Precedes.{Name, name, origin, stands, Chain, on-chare, through-sender, through}}
-use Rattle.precedes.specs.Rows.{rec, Is, Good, at-stands, stands-at, good-tn, good-chare, good-sender, is-low, low-is, once}
+use Rattle.precedes.specs.Rows.{rec, Is, Good, at-stands, stands-at, good-tn, good-chare, good-sender, is-low, low-is, once, above}
 
 -- v is the place of this name among the first i records, counted from 1, and 0 where it is not among them
 abbrev pub Place : List Processing → ℕ → Name → ℕ → Type 0
@@ -48,6 +48,29 @@ pub end-stands : {row : List Processing} {a b : Name} → Chain row a b → stan
 end-stands (on-chare f s e t) = s
 end-stands {row} (through-sender p m s) = let r = named-in row p m in at-stands (name p) row (r .0) (r .1) (r .3)
 end-stands (through c d) = end-stands d
+
+-- a chain goes forward in the row
+module _ (row : List Processing) (g : Good row (length row)) where
+  pub chain-forward : {a b : Name} (i j : ℕ) → i < length row → j < length row → Is row i a → Is row j b → Chain row a b → i < j
+  unfolding origin
+  chain-forward i j l h is js (on-chare {a = a} {b = b} f s e t) = elim (lt? i j) [
+    | inl y ↦ y
+    | inr n ↦ elim (eq? i j) [
+      | inl same ↦ absurd (omega (arith, t, is .1, ap (λ (k : ℕ). rec row k .tn) same, js .1))
+      | inr d ↦ absurd (omega (arith, t, is-low row (length row) g j i b (omega arith) (omega arith) js .1, above row (length row) g i (b .0) l (is .0 ∙ e), is .1))
+    ]
+  ]
+  chain-forward i j l h is js (through-sender p m s) =
+      let r = named-in row p m in
+      let same = once row (length row) g j (r .0) (name p) h (r .1) js (r .3) in
+      let e : rec row j ≡ p = rw same (r .2) in
+      elim (good-sender row j (g .1 j h) (omega arith)) [
+        | inl desk ↦ absurd (omega (arith, good-chare row i (g .1 i l) .0, is .0, ap (λ (x : Processing). x .sender) e, desk .0))
+        | inr k ↦ omega (arith, k .1, once row (length row) g i (k .0) (origin p) l (omega (arith, k .1)) is (rw (sym e) (k .2)))
+      ]
+  chain-forward i j l h is js (through {b = b} c d) =
+      let k = stands-at b row (end-stands c) in
+      omega (arith, chain-forward i (k .0) l (k .1) is (k .2) c, chain-forward (k .0) j (k .1) h (k .2) js d)
 
 module _ (row : List Processing) (before sent : List ℕ) (g : Good row (length row)) (links : Linked row (length row) before sent) where
   abbrev n : ℕ
@@ -114,18 +137,17 @@ module _ (row : List Processing) (before sent : List ℕ) (g : Good row (length 
   ]
 
   -- from chare c's processing with a higher TN back to the one with TN t
-  down : (d i j c t : ℕ) → i < n → j < n → Is row i (c, t) → Is row j (c, t + suc d) → (i < j) × Reach before sent i j
+  down : (d i j c t : ℕ) → i < n → j < n → Is row i (c, t) → Is row j (c, t + suc d) → Reach before sent i j
   down zero i j c t l h is js =
       let low = is-low row n g i n (c, t) l (omega arith) is in
       let k = one-below j c t h (low .0) (js .0, omega (arith, js .1)) in
       let same = once row n g i (k .0) (c, t) l (omega (arith, k .1)) is (k .3) in
-      (omega (arith, k .1, same), by-before (k .0) (k .2) (itself (sym same)))
+      by-before (k .0) (k .2) (itself (sym same))
   down (suc d) i j c t l h is js =
       let k = one-below j c (t + suc d) h (omega arith) (js .0, omega (arith, js .1)) in
-      let r = down d i (k .0) c t l (omega (arith, k .1)) is (k .3) in
-      (omega (arith, k .1, r .0), by-before (k .0) (k .2) (r .1))
+      by-before (k .0) (k .2) (down d i (k .0) c t l (omega (arith, k .1)) is (k .3))
 
-  from-sender : (i j : ℕ) → i < n → j < n → Is row i (origin (rec row j)) → (i < j) × Reach before sent i j
+  from-sender : (i j : ℕ) → i < n → j < n → Is row i (origin (rec row j)) → Reach before sent i j
   unfolding origin
   from-sender i j l h is = elim (links .to-sender j h) [
     | inl z ↦ elim (good-sender row j (g .1 j h) (omega arith)) [
@@ -134,10 +156,10 @@ module _ (row : List Processing) (before sent : List ℕ) (g : Good row (length 
     ]
     | inr p ↦
         let same = once row n g i (p .0) (origin (rec row j)) l (omega (arith, p .1)) is (p .3) in
-        (omega (arith, p .1, same), by-sender (p .0) (p .2) (itself (sym same)))
+        by-sender (p .0) (p .2) (itself (sym same))
   ]
 
-  pub chain-reach : {a b : Name} (i j : ℕ) → i < n → j < n → Is row i a → Is row j b → Chain row a b → (i < j) × Reach before sent i j
+  pub chain-reach : {a b : Name} (i j : ℕ) → i < n → j < n → Is row i a → Is row j b → Chain row a b → Reach before sent i j
   chain-reach i j l h is js (on-chare {a = a} {b = b} f s e t) = down (b .1 - a .1 - 1) i j (a .0) (a .1) l h is (js .0 ∙ sym e, omega (arith, js .1))
   chain-reach i j l h is js (through-sender p m s) =
       let r = named-in row p m in
@@ -146,6 +168,4 @@ module _ (row : List Processing) (before sent : List ℕ) (g : Good row (length 
       from-sender i j l h (rw e is)
   chain-reach i j l h is js (through {b = b} c d) =
       let k = stands-at b row (end-stands c) in
-      let r = chain-reach i (k .0) l (k .1) is (k .2) c in
-      let q = chain-reach (k .0) j (k .1) h (k .2) js d in
-      (omega (arith, r .0, q .0), reach-on (r .1) (q .1))
+      reach-on (chain-reach i (k .0) l (k .1) is (k .2) c) (chain-reach (k .0) j (k .1) h (k .2) js d)

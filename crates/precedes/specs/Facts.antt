@@ -1,10 +1,10 @@
 -- What readers of the answers may expect of them: there is one right answer; what a chain joins stands in the row's order, so nothing
 -- precedes itself; which record is the first bad one.
 use Rattle.lists.specs.Basics.{_≡_, refl, sym, ap, _∙_, false, List, inl, inr, ℕ, zero, suc, _+_, _<_, _≤_, arith, length, take, drop}
-use Rattle.lists.specs.Tests.{either, eq?, lt?, true-not-false}
+use Rattle.lists.specs.Tests.{either, eq?, true-not-false}
 use Rattle.precedes.specs.{declared.Processing.Processing, declared.Answer.Answer, declared.Answer.the-variants.{Bad, Unknown, Yes, No}}
 use Rattle.precedes.specs.Precedes.{Name, name, origin, good, first-bad, bad-place, Chain, on-chare, through-sender, through, Right}
-use Rattle.precedes.specs.{Rows.{rec, Is, Good, stands-at, good-tn, good-chare, good-sender, is-low, once, above}, Chains.{named-in, end-stands}, Reading.{bad-start, bad-none, bad-next, bad-here, bad-past}}
+use Rattle.precedes.specs.{Rows.{rec, Is, Good, stands-at, good-tn, good-chare, good-sender, is-low, once}, Chains.{named-in, end-stands, chain-forward}, Reading.{bad-start, bad-none, bad-next, bad-here, bad-past}}
 
 -- ---- the place of the first bad record
 -- as far as all are good, the search goes on
@@ -42,36 +42,15 @@ sent-at-0 row i g l z = elim (good-sender row i (g .1 i l) (omega arith)) [
   | inr r ↦ absurd (omega (arith, z, r .2 .1, good-tn row (r .0) (g .1 (r .0) (omega (arith, r .1)))))
 ]
 
--- ---- chains go forward in the row
+-- ---- a chain goes forward in the row (`chain-forward` in `Chains`)
 module _ (row : List Processing) (g : Good row (length row)) where
-  pub chain-forward : {a b : Name} (i j : ℕ) → i < length row → j < length row → Is row i a → Is row j b → Chain row a b → i < j
-  unfolding origin
-  chain-forward i j l h is js (on-chare {a = a} {b = b} f s e t) = elim (lt? i j) [
-    | inl y ↦ y
-    | inr n ↦ elim (eq? i j) [
-      | inl same ↦ absurd (omega (arith, t, is .1, ap (λ (k : ℕ). rec row k .tn) same, js .1))
-      | inr d ↦ absurd (omega (arith, t, is-low row (length row) g j i b (omega arith) (omega arith) js .1, above row (length row) g i (b .0) l (is .0 ∙ e), is .1))
-    ]
-  ]
-  chain-forward i j l h is js (through-sender p m s) =
-      let r = named-in row p m in
-      let same = once row (length row) g j (r .0) (name p) h (r .1) js (r .3) in
-      let e : rec row j ≡ p = rw same (r .2) in
-      elim (good-sender row j (g .1 j h) (omega arith)) [
-        | inl desk ↦ absurd (omega (arith, good-chare row i (g .1 i l) .0, is .0, ap (λ (x : Processing). x .sender) e, desk .0))
-        | inr k ↦ omega (arith, k .1, once row (length row) g i (k .0) (origin p) l (omega (arith, k .1)) is (rw (sym e) (k .2)))
-      ]
-  chain-forward i j l h is js (through {b = b} c d) =
-      let k = stands-at b row (end-stands c) in
-      omega (arith, chain-forward i (k .0) l (k .1) is (k .2) c, chain-forward (k .0) j (k .1) h (k .2) js d)
-
   -- "A processing does not precede itself"
   pub not-itself : (a : Name) → Chain row a a → ⊥
-  not-itself a c = let i = stands-at a row (end-stands c) in omega (arith, chain-forward (i .0) (i .0) (i .1) (i .1) (i .2) (i .2) c)
+  not-itself a c = let i = stands-at a row (end-stands c) in omega (arith, chain-forward row g (i .0) (i .0) (i .1) (i .1) (i .2) (i .2) c)
 
   -- nor does a later record precede an earlier one
   pub not-back : (a b : Name) (i j : ℕ) → i < length row → j ≤ i → Is row i a → Is row j b → Chain row a b → ⊥
-  not-back a b i j l h is js c = omega (arith, chain-forward i j l (omega arith) is js c)
+  not-back a b i j l h is js c = omega (arith, chain-forward row g i j l (omega arith) is js c)
 
   -- nothing precedes a chare's first processing if the desk sent its message
   pub first-from-desk : {a b : Name} (j : ℕ) → j < length row → Is row j b → b .1 ≡ 1 → rec row j .sender ≡ 0 → Chain row a b → ⊥

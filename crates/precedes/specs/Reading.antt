@@ -32,12 +32,13 @@ read-some row place i e = rw (ne-eqb place 0 (λ z. omega (arith, z, e))) (omega
 abbrev pub zeros : ℕ → List ℕ
 zeros n = replicate n 0
 
-blank : (n i : ℕ) → getD (zeros n) i 0 ≡ 0
-blank n i = unfold as-map in ap (λ (f : ℕ → ℕ). f i) (map-blank 0 n)
+pub blank : {A : Type 0} (d : A) (n i : ℕ) → getD (replicate n d) i d ≡ d
+unfolding as-map
+blank {A} d n i = ap (λ (f : ℕ → A). f i) (map-blank d n)
 
 found-blank : (n : Name) → found (zeros SLOTS) n ≡ 0
 unfolding found
-found-blank n = either (tabled n) (λ e. rw e (blank SLOTS (slot n))) (λ e. rw e)
+found-blank n = either (tabled n) (λ e. rw e (blank 0 SLOTS (slot n))) (λ e. rw e)
 
 pub reading-none : (row : List Processing) → Reading row 0 (zeros SLOTS) (zeros 512) (zeros 512)
 reading-none row = record {
@@ -47,8 +48,8 @@ reading-none row = record {
   good-so-far = (omega arith, λ i l. absurd (omega arith));
   knows = λ n. inl (found-blank n, λ k l. absurd (omega arith));
   linked = record { to-before = λ i l. absurd (omega arith); to-sender = λ i l. absurd (omega arith) };
-  before-blank = λ j l. blank 512 j;
-  sent-blank = λ j l. blank 512 j;
+  before-blank = λ j l. blank 0 512 j;
+  sent-blank = λ j l. blank 0 512 j;
 }
 
 -- a place among the first i is at most i
