@@ -13,8 +13,9 @@ ghost use Rattle.protocol.specs.Crash.{survives};
 ghost use Rattle.words.specs.Rows.{without};
 ghost use Rattle.words.specs.Becomes.{Becomes};
 ghost use Rattle.head.specs.Head.{HEAD, job-of};
+ghost use Rattle.item.specs.Item.{item-of, items};
 ghost use Rattle.packets.specs.Words.{content-of, unpacked, fitted, packets};
-ghost use Rattle.packets.specs.Packing.{bare, Packs};
+ghost use Rattle.packets.specs.Packing.{bare, body-of, packed};
 ghost use Rattle.packets.specs.View.{sought};
 ghost use Rattle.packets.specs.Names.{has-name};
 ghost use Rattle.packets.specs.Stays.{stays, is-kept};
@@ -61,7 +62,7 @@ fn made(kind: u8, flags: u8, tn: u16, value: u16, hops: u8) -> Item
 
 // An item with nothing but its content.
 fn body(c: Content) -> Item
-    ensures { λ r. ⌜ Packs c r ⌝ }
+    ensures { λ r. ⌜ r ≡ body-of c ⌝ }
 {
     match c {
         Content::Ask => made(1, 0, 0, 0, 0),
@@ -75,7 +76,7 @@ fn body(c: Content) -> Item
 }
 
 fn pack(p: Packet) -> u64
-    ensures { λ r. ⌜ unpacked r ≡ fitted p ⌝ }
+    ensures { λ r. ⌜ item-of r ≡ packed p ⌝ }
 {
     let c = p.content;
     let x = body(c);
@@ -181,7 +182,8 @@ pub fn find(ws: &[u64], k: u8, sender: u8, receiver: u8, sn: u16) -> Found
 
 // One more at the end; a full wire stays.
 pub fn join(ws: &mut [u64], p: Packet)
-    ensures { λ _. ⌜ Becomes packets (now (ws .entry)) (now (ws .exit)) (push (length (now (ws .entry)) - 1) (packets (now (ws .entry))) (fitted p)) ⌝ }
+    ensures row { λ _. ⌜ Becomes packets (now (ws .entry)) (now (ws .exit)) (push (length (now (ws .entry)) - 1) (packets (now (ws .entry))) (fitted p)) ⌝ }
+    ensures words { λ _. ⌜ items (now (ws .exit)) ≡ push (length (now (ws .entry)) - 1) (items (now (ws .entry))) (packed p) ⌝ }
 {
     words::push(ws, pack(p));
 }

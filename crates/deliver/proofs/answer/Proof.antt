@@ -28,7 +28,7 @@ returns c =
     let k = j .before .before .before in
     let l = k .before .before .before .before in
     let n : length (l .leave .last .0) - 1 ≡ 128 = omega arith in
-    let on = j .join .ensures in
+    let on = j .join .ensures .0 in
     rw (k .r .given .1) (record { left = l .leave .last .0; off = l .leave .ensures; on = becomes-as packets on (rw (n, l .leave .ensures .items)) })
 
 same-length-2 : tie.Need-same-length-2

@@ -29,7 +29,7 @@ returns-3 c =
     let z : length (st .args .ws .now) - 1 ≡ note-room = omega (arith, st .pre .0) in
     let room : length (notes (st .args .ws .now)) < note-room = omega (arith, n .count .ensures) in
     let same = fitted-same (note-of (st .args .p) (st .args .tn)) (st .pre .1 .sender) (st .pre .1 .receiver) in
-    passes 0 refl (rw (sym (x .before .has .ensures) ∙ x .if1 .left, lt-ltb, u .push .ensures .items, z, same, push-fits))
+    passes 0 refl (rw (sym (x .before .has .ensures) ∙ x .if1 .left, lt-ltb, u .push .ensures .0 .items, z, same, push-fits))
 
 pub note-spec : {M : Type 1} → statement M
 note-spec =

@@ -18,7 +18,7 @@ returns-3 c =
     let st = c .before .before .before .before .before .before .before .before .before .before .before in
     let a = st .args in
     let j = c .before .before .join in
-    rw (c .before .before .before .before .before .before .before .before .o .given .1) (put-one (a .m) _ (a .wire .now) (st .pre) (omega arith) (j .last .0) (j .ensures .items))
+    rw (c .before .before .before .before .before .before .before .before .o .given .1) (put-one (a .m) _ (a .wire .now) (st .pre) (omega arith) (j .last .0) (j .ensures .0 .items))
 
 pub put-spec : {M : Type 1} → statement M
 put-spec =
