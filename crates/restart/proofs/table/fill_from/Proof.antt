@@ -27,7 +27,7 @@ loop-again c =
     let small : x .result .message .hops < 8 = rw (x .ensures) (at-fits (a .l .now) (l .i) .hops) in (
       search needs,
       search needs,
-      l .inv .2 ∙ rw (next (messages (a .l .now)) (l .i) (x .result) (logged-of 0) (x .ensures) (omega arith), above, c .before .before .fill .ensures .items, mod-eq-of-lt small),
+      l .inv .2 ∙ rw (next (messages (a .l .now)) (l .i) (x .result) (logged-of 0) (x .ensures) (omega arith), above, c .before .before .fill .ensures .0 .items, mod-eq-of-lt small),
     )
 
 loop-again-2 : tie.Need-loop-again-2 Inv-loop μ-loop
