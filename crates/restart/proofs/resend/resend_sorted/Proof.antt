@@ -4,7 +4,7 @@ use Rattle.restart.proofs.resend.resend_sorted.Statement.{statement}
 use Rattle.restart.proofs.resend.resend_sorted.Tie as tie
 
 returns : tie.Need-returns
-returns c = c .before .before .resend-log .ensures ∙ rw (c .before .before .before .before .before .before .sort .ensures .items, c .before .before .before .before .before .before .before .before .before .copy-over .ensures)
+returns c = c .before .before .resend-log .ensures ∙ rw (c .before .before .before .before .before .before .sort .ensures .0 .items, c .before .before .before .before .before .before .before .before .before .copy-over .ensures)
 
 pub resend-sorted-spec : {M : Type 1} → statement M
 resend-sorted-spec =
