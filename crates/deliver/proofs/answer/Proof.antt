@@ -29,7 +29,7 @@ returns c =
     let l = k .before .before .before .before in
     let n : length (l .leave .last .0) - 1 ≡ 128 = omega arith in
     let on = j .join .ensures .0 in
-    rw (k .r .given .1) (record { left = l .leave .last .0; off = l .leave .ensures; on = becomes-as packets on (rw (n, l .leave .ensures .items)) })
+    rw (k .r .given .1) (record { left = l .leave .last .0; off = l .leave .ensures .0; on = becomes-as packets on (rw (n, l .leave .ensures .0 .items)) })
 
 same-length-2 : tie.Need-same-length-2
 same-length-2 c = search needs
@@ -37,7 +37,7 @@ same-length-2 c = search needs
 returns-2 : tie.Need-returns-2
 unfolding answered
 returns-2 c =
-    let off = c .before .before .before .before .leave .ensures in
+    let off = c .before .before .before .before .leave .ensures .0 in
     rw (c .enum-told .given .1) (record { left = _; off = off; on = becomes-same packets _ (off .items) })
 
 pub answer-spec : {M : Type 1} → statement M
