@@ -5,6 +5,14 @@ use Rattle.arrays.specs.Place.{place}
 use Rattle.words.specs.{Rows.row, Becomes.{Becomes, becomes-as, becomes-same, becomes-mapped}, Mapped.{change-at, change-no}, Sift.map-same}
 use Rattle.item.specs.{declared.Item.Item, Item.{item-of, items}}
 
+-- as many items as a row has words, and as it has meanings of them
+pub items-length : (ws : List ℕ) → length (items ws) ≡ length (row ws)
+unfolding items
+items-length ws = length-map (row ws) item-of
+
+pub as-many : {A : Type 0} (f : ℕ → A) (ws : List ℕ) → length (items ws) ≡ length (map f (row ws))
+as-many f ws = items-length ws ∙ sym (length-map (row ws) f)
+
 module _ {A : Type 0} (means : Item → A) where
   seen : (l : List ℕ) → map means (map item-of l) ≡ map (λ w. means (item-of w)) l
   seen [] = refl

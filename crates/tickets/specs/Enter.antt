@@ -1,15 +1,11 @@
 -- A ticket entered once.
-use Rattle.lists.specs.Basics.{_≡_, refl, sym, _∙_, true, false, List, [], _∷_, _++_, ℕ, _+_, _-_, _%_, _<_, _≤_, arith, mod-eq-of-lt, le-leb, lt-leb, length, length-append, length-map}
+use Rattle.lists.specs.Basics.{_≡_, refl, sym, _∙_, true, false, List, [], _∷_, _++_, ℕ, _+_, _-_, _%_, _<_, _≤_, arith, mod-eq-of-lt, le-leb, lt-leb, length, length-append}
 use Rattle.lists.specs.Lists.{anyb}
 use Rattle.arrays.specs.{Front.{push, push-fits, push-full}, Place.{place, any-there, none-there}}
 use Rattle.protocol.specs.{Tickets.{for-message, unreceived}, Restart.enter}
 use Rattle.words.specs.{Rows.{row, named}, Becomes.{Becomes, becomes-same, becomes-as}, Mapped.place-map}
-use Rattle.item.specs.Item.{item-of, items}
+use Rattle.item.specs.{Item.items, Both.items-length}
 use Rattle.tickets.specs.{Table.{entry-of, entries, packed, Entering}, EntryLaws.by-name, Fits.{count-is, entries-fit}}
-
-items-count : (ws : List ℕ) → length (items ws) ≡ length (row ws)
-unfolding items
-items-count ws = length-map (row ws) item-of
 
 -- the place of a sender and an SN in hand
 module _ (s n : ℕ) (hn : n < 65536) (ws : List ℕ) (i : ℕ) (e : i ≡ place (named s n) (row ws)) where
@@ -41,7 +37,7 @@ module _ (s n : ℕ) (hn : n < 65536) (ws : List ℕ) (i : ℕ) (e : i ≡ place
     more h = rw (fresh h, length-append) (omega (arith, count-is ws))
 
     pub enter-full : length (row ws) ≤ i → length ws ≤ length (row ws) + 1 → Entering ws s n tn ws false
-    enter-full h g = record { fits = rw (more h) (sym (lt-leb (length (row ws) + 1) (length ws - 1) (omega arith))); table = becomes-same entries ws refl; words = rw (lacks h) (sym (push-full (length ws - 1) (items ws) _ (omega (arith, items-count ws)))) }
+    enter-full h g = record { fits = rw (more h) (sym (lt-leb (length (row ws) + 1) (length ws - 1) (omega arith))); table = becomes-same entries ws refl; words = rw (lacks h) (sym (push-full (length ws - 1) (items ws) _ (omega (arith, items-length ws)))) }
 
     pub enter-room : (out : List ℕ) → length (row ws) ≤ i → length (row ws) + 1 < length ws → s < 16 → Becomes entries ws out (push (length ws - 1) (entries ws) (unreceived (s % 16) n tn)) → items out ≡ push (length ws - 1) (items ws) (packed (unreceived s n tn)) → Entering ws s n tn out true
     enter-room out h g small a b = record {
