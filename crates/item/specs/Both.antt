@@ -18,7 +18,7 @@ module _ {A : Type 0} (means : Item → A) where
   seen [] = refl
   seen (w ∷ l) = ap (means (item-of w) ∷_) (seen l)
 
-  pub both : {before after : List ℕ} {l : List Item} {k : List A} → Becomes items before after l → map means l ≡ k →
+  both : {before after : List ℕ} {l : List Item} {k : List A} → Becomes items before after l → map means l ≡ k →
       Becomes (λ ws. map (λ w. means (item-of w)) (row ws)) before after k × (items after ≡ l)
   unfolding items
   both {before} {after} {l} b e = (

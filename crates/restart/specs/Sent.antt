@@ -2,7 +2,7 @@
 use Rattle.lists.specs.Basics.{_≡_, sym, ap, _∙_, Bool, true, false, List, [], _∷_, _++_, append-assoc, append-nil, map, Option, ℕ, _<_, _≤_, arith, le-leb, lt-leb}
 use Rattle.lists.specs.Basics.{length, length-append}
 use Rattle.arrays.specs.Front.{push, push-fits}
-use Rattle.protocol.specs.{declared.Logged.Logged, declared.Message.Message, declared.Packet.Packet, Parts.State}
+use Rattle.protocol.specs.{declared.Logged.Logged, declared.Packet.Packet, Parts.State}
 use Rattle.logs.specs.Fits.{Fits}
 use Rattle.item.specs.{declared.Item.Item, Item.items, Both.as-many}
 use Rattle.packets.specs.{Words.{fitted, unpacked, packets}, Packing.packed}

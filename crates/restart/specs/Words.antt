@@ -1,6 +1,6 @@
 -- A table every word of which is an entry packed, so that no bit stands beside what its entry says. What a restart builds is one.
 use Rattle.lists.specs.Basics.{_≡_, refl, sym, ap, _∙_, Bool, List, [], _∷_, map, ℕ, _-_, _%_, _<_, arith, mod-eq-of-lt, ltb, length, set, inl, inr, here, there}
-use Rattle.lists.specs.{Tests.either, Lists.{_∈_, All, all-nil, all-snoc, anyb, change1, change1-mem}}
+use Rattle.lists.specs.{Tests.either, Lists.{All, all-nil, all-snoc, anyb, change1, change1-mem}}
 use Rattle.arrays.specs.Front.{push}
 use Rattle.protocol.specs.{declared.Entry.Entry, Tickets.{for-message, unreceived}}
 use Rattle.words.specs.Rows.{row, row-cut}

@@ -1,6 +1,6 @@
 use Rattle.lists.specs.Basics.{arith, _%_, _∙_, ap, needs}
 use Rattle.protocol.specs.Tickets.{for-message, fill, filled}
-use Rattle.item.specs.{Item.items, Both.{both-changed, both-same}}
+use Rattle.item.specs.Both.{both-changed, both-same}
 use Rattle.tickets.specs.{Table.{entry-of, as-entry, packed, entries}, EntryLaws.{by-name, packed-fill}}
 use Rattle.tickets.proofs.fill.Statement.{statement}
 use Rattle.tickets.proofs.fill.Tie as tie
