@@ -1,5 +1,9 @@
 //! Lists for examiners: what is asked for is there, and nothing else that matters.
 
+mod common;
+
+use common::documents::{blocks, document};
+use common::run::fresh;
 use explained::notation::{decode, encode};
 use reference::answer::{Answer, Question, Rule};
 use reference::frame::{parse, Frame};
@@ -7,6 +11,8 @@ use reference::reader::answer_all;
 use reference::state::State;
 use reference::wire::{Kind, Name};
 use reference::world::Phase;
+use std::fs;
+use std::os::unix::fs::symlink;
 use std::process::Command;
 
 fn lists(args: &[&str]) -> (i32, Vec<u8>, String) {
@@ -222,6 +228,9 @@ fn shows_at_the_end() {
                 let lost = answer == Answer::Refused(Question::NotLost);
                 assert!(if with == "ff" { lost } else { answered }, "{args:?}");
             }
+            let worked = |answer| matches!(answer, Answer::Shown { height: 1.., .. });
+            let any = shows.iter().any(|&(_, answer)| worked(answer));
+            assert_eq!(any, with != "ff", "{args:?}");
             for name in with.split(',') {
                 assert!(seen.count(name) > 0, "{args:?}: {name}");
             }
@@ -353,4 +362,38 @@ fn help() {
     }
     assert!(help.contains(&format!(" {} ", reference::exam::TRIES)));
     assert!(help.lines().all(|line| line.len() <= 100));
+}
+
+/// What README shows to examiners, as typed there.
+#[test]
+fn the_calls_of_readme() {
+    let folder = fresh("readme-lists");
+    fs::create_dir(folder.join("tools")).expect("a folder");
+    for (name, built) in [
+        ("lists", env!("CARGO_BIN_EXE_lists")),
+        ("satuphir", env!("CARGO_BIN_EXE_satuphir")),
+    ] {
+        symlink(built, folder.join("tools").join(name)).expect("a link");
+    }
+    let readme = document("README.md");
+    let calls: Vec<&str> = blocks(&readme, "sh")
+        .into_iter()
+        .filter(|block| block.contains("tools/lists "))
+        .collect();
+    assert_eq!(calls.len(), 1);
+    let output = Command::new("bash")
+        .args(["-e", "-c", calls[0]])
+        .current_dir(&folder)
+        .output()
+        .expect("a run");
+    let error = String::from_utf8_lossy(&output.stderr);
+    assert_eq!((output.status.code(), error.as_ref()), (Some(0), ""));
+    for name in ["exam.txt", "exam-1.txt", "exam-2.txt", "exam-3.txt"] {
+        assert!(readme.contains(&format!("`{name}`")) || name == "exam.txt");
+        let words = fs::read(folder.join(name)).expect("a list");
+        let seen = seen(&encode(&words).expect("words"));
+        assert_eq!((seen.machines, seen.chares), (3, 4), "{name}");
+        assert!(seen.grants_lost > 0 && seen.holes > 0 && seen.garbled == 0);
+        assert!(seen.values.iter().all(|value| (1..=9).contains(value)));
+    }
 }

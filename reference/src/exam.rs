@@ -21,7 +21,7 @@ pub struct Wish {
     pub without: Vec<Promise>,
     /// No line gets 01, 02 or 03.
     pub clean: bool,
-    /// A show of each chare follows on the frames; each is answered unless the run is lost.
+    /// A show of each chare follows on the frames. Unless the run is lost each is answered, and some chare has worked.
     pub shows: bool,
     /// Injected values are from 1 to 9.
     pub small_values: bool,
@@ -108,13 +108,18 @@ fn finished(wish: &Wish, mut list: Vec<u8>) -> Option<Vec<u8>> {
         return None;
     }
     if wish.shows {
-        for chare in job.chares() {
-            let show = Frame::Show { chare };
-            let is_answered = state.step(&show).is_accepted();
-            if !is_answered && !state.lost {
-                return None;
-            }
+        let shows = job.chares().map(|chare| Frame::Show { chare });
+        let mut heights = Vec::new();
+        for show in shows {
             put_line(&mut list, &show);
+            match state.step(&show) {
+                Answer::Shown { height, .. } => heights.push(height),
+                _ if state.lost => {}
+                _ => return None,
+            }
+        }
+        if !state.lost && heights.iter().all(|&height| height == 0) {
+            return None;
         }
     }
     Some(list)

@@ -33,7 +33,7 @@ tools/lists [OPTIONS] SEED            a list for an exam, the same for the same 
                       asks for it
   --clean             no garbled frame and none out of range: no 01, 02 or 03
   --shows             after these frames a show of each chare; each is answered with height and
-                      state, or with 04 if the run is lost
+                      state, and one chare at least has worked; if the run is lost, they get 04
   --small-values      every injected value is from 1 to 9
   --words             in words, as tools/satuphir decode gives them, not in digits
 tools/lists SEED FRAMES               one random list, of any kind

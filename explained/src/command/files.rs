@@ -33,7 +33,7 @@ pub fn digits(list: &OsStr, input: &[u8]) -> Result<Vec<u8>, Failure> {
     notation::digits(input).map_err(|error| Failure::File(format!("{}, {error}", shown(list))))
 }
 
-fn shown(list: &OsStr) -> String {
+pub fn shown(list: &OsStr) -> String {
     match is_standard_input(list) {
         true => "standard input".to_string(),
         false => list.to_string_lossy().into_owned(),
@@ -75,7 +75,7 @@ pub fn look_at_folder(out: &OsStr) -> Result<(), Failure> {
     }
 }
 
-pub fn write(out: &OsStr, text: &str) -> Result<(), Failure> {
+pub fn write(out: &OsStr, text: impl AsRef<[u8]>) -> Result<(), Failure> {
     fs::write(out, text).map_err(|error| named(out, &error))
 }
 

@@ -3,7 +3,7 @@
 use super::args::{Asked, Task};
 use super::files::{self, print};
 use super::usage::HELP;
-use super::{Failure, DIFFERENT, DONE, NEEDS_ENGINE};
+use super::{variants, Failure, DIFFERENT, DONE, NEEDS_ENGINE};
 use crate::hints::hints;
 use crate::lines::cut;
 use crate::picture::{check_length, Drawing, Story};
@@ -30,6 +30,8 @@ pub fn check(asked: &Asked) -> Result<u8, Failure> {
 /// Can the result be written where it is to be, and does it not lie on the list?
 fn look_at_out(asked: &Asked) -> Result<(), Failure> {
     match &asked.out {
+        // The files of variants have names of their own.
+        Some(out) if asked.task == Task::Variants => files::look_at_folder(out),
         Some(out) => {
             files::keep_apart(&asked.list, out)?;
             files::look_at_folder(out)
@@ -59,6 +61,10 @@ pub fn run(asked: &Asked) -> Result<u8, Failure> {
             say(&survivors::notes(&input, &digits));
             return counts(asked, &digits);
         }
+        Task::Variants => {
+            say(&hints(&input));
+            return variants::run(asked, &input, &digits);
+        }
         _ => {
             say(&hints(&input));
             return with_lines(asked, &digits);
@@ -67,7 +73,7 @@ pub fn run(asked: &Asked) -> Result<u8, Failure> {
     Ok(DONE)
 }
 
-fn say(notes: &[String]) {
+pub fn say(notes: &[String]) {
     for note in notes {
         eprintln!("satuphir: note: {note}");
     }
@@ -76,7 +82,7 @@ fn say(notes: &[String]) {
 const QUICK: &str = "the second implementation's, not the proved engine's";
 
 /// Whose lines a quick run gives is said before them.
-fn say_whose(asked: &Asked) {
+pub fn say_whose(asked: &Asked) {
     if asked.quick {
         eprintln!("satuphir: --quick: the lines are {QUICK}");
     }
@@ -96,11 +102,20 @@ fn counts(asked: &Asked, digits: &[u8]) -> Result<u8, Failure> {
     Ok(status(difference))
 }
 
+/// The proved engine's lines, or the second implementation's for a quick run.
+pub fn lines_of(asked: &Asked, digits: &[u8]) -> Vec<u8> {
+    match asked.quick {
+        true => answer_all(digits),
+        false => engine::lines(digits),
+    }
+}
+
 /// What needs the lines of the list.
 fn with_lines(asked: &Asked, digits: &[u8]) -> Result<u8, Failure> {
-    let (lines, whose) = match asked.quick {
-        true => (answer_all(digits), QUICK),
-        false => (engine::lines(digits), "the proved engine's"),
+    let lines = lines_of(asked, digits);
+    let whose = match asked.quick {
+        true => QUICK,
+        false => "the proved engine's",
     };
     let ask = (!asked.quick).then_some(engine::precedes as before::Ask);
     say_whose(asked);
@@ -181,7 +196,7 @@ fn put_picture(asked: &Asked, story: &Story) -> Result<(), Failure> {
     Ok(())
 }
 
-fn status(difference: Option<impl Display>) -> u8 {
+pub fn status(difference: Option<impl Display>) -> u8 {
     match difference {
         None => DONE,
         Some(difference) => {
