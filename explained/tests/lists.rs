@@ -4,13 +4,11 @@ mod common;
 
 use common::documents::{blocks, document};
 use common::run::fresh;
+use common::seen::seen;
 use explained::notation::{decode, encode};
-use reference::answer::{Answer, Question, Rule};
-use reference::frame::{parse, Frame};
+use reference::answer::{Answer, Question};
+use reference::frame::Frame;
 use reference::reader::answer_all;
-use reference::state::State;
-use reference::wire::{Kind, Name};
-use reference::world::Phase;
 use std::fs;
 use std::os::unix::fs::symlink;
 use std::process::Command;
@@ -33,93 +31,6 @@ fn given(args: &[&str]) -> Vec<u8> {
     let (status, list, error) = lists(args);
     assert_eq!((status, error.as_str()), (0, ""), "{args:?}");
     list
-}
-
-/// What a list holds, seen by playing it.
-#[derive(Default)]
-struct Seen {
-    frames: usize,
-    machines: u8,
-    chares: u8,
-    crashes: usize,
-    restarts: usize,
-    holes: usize,
-    lost: usize,
-    lost_catching_up: usize,
-    grants_lost: usize,
-    old: usize,
-    withdrawals: usize,
-    garbled: usize,
-    values: Vec<u16>,
-    last: Vec<(Frame, Answer)>,
-}
-
-impl Seen {
-    fn count(&self, name: &str) -> usize {
-        match name {
-            "crash" => self.crashes,
-            "restart" => self.restarts,
-            "hole" => self.holes,
-            "ff" => self.lost,
-            "ff-catching-up" => self.lost_catching_up,
-            "grant-lost" => self.grants_lost,
-            "old" => self.old,
-            "withdraw" => self.withdrawals,
-            other => panic!("{other}"),
-        }
-    }
-}
-
-/// The GRANTs on the wire that chares of a machine gave.
-fn grants(state: &State, machine: u8) -> Vec<Name> {
-    let job = state.job.as_ref().expect("a job");
-    let names = state.world.wire.names().iter().copied();
-    let given = |n: &Name| n.kind() == Kind::Grant && job.machine_of(n.receiver()) == machine;
-    names.filter(given).collect()
-}
-
-fn seen(list: &[u8]) -> Seen {
-    assert!(list.ends_with(b"\n"));
-    let mut state = State::new();
-    let mut seen = Seen::default();
-    for line in list[..list.len() - 1].split(|&b| b == b'\n') {
-        let before = state.clone();
-        let answer = state.line(line);
-        let accepted = answer.is_accepted();
-        seen.frames += 1;
-        seen.garbled += usize::from(matches!(
-            answer,
-            Answer::Refused(Question::Form | Question::Job | Question::Range)
-        ));
-        seen.old += usize::from(answer == Answer::Accepted(Rule::GrantOld));
-        let Some(frame) = parse(line) else { continue };
-        seen.last.push((frame, answer));
-        match frame {
-            Frame::Inject { value, .. } => seen.values.push(value),
-            Frame::Crash { machine } if accepted => {
-                seen.crashes += 1;
-                let gone = grants(&before, machine).len() - grants(&state, machine).len();
-                seen.grants_lost += gone;
-            }
-            Frame::Crash { machine } if answer == Answer::Lost => {
-                seen.lost += 1;
-                let phases = before.world.phases.iter().zip(1..);
-                let mut catching = phases.filter(|(&phase, _)| phase == Phase::CatchingUp);
-                let other = catching.any(|(_, number)| number != machine);
-                seen.lost_catching_up += usize::from(other);
-            }
-            Frame::Withdraw { .. } => seen.withdrawals += usize::from(accepted),
-            Frame::Restart { .. } if accepted => {
-                seen.restarts += 1;
-                let holes = |chare: &&reference::chare::Chare| chare.holes().count() > 0;
-                seen.holes += state.world.chares.iter().filter(holes).count();
-            }
-            _ => {}
-        }
-    }
-    let job = state.job.expect("a job");
-    (seen.machines, seen.chares) = (job.machine_count(), job.chare_count());
-    seen
 }
 
 #[test]
@@ -221,7 +132,7 @@ fn shows_at_the_end() {
             let chares = usize::from(seen.chares);
             let body = seen.frames - chares;
             assert!(body == 40 || with == "ff" && body < 40, "{args:?}");
-            let shows = &seen.last[seen.last.len() - chares..];
+            let shows = &seen.played[seen.played.len() - chares..];
             for (&(frame, answer), chare) in shows.iter().zip(1..) {
                 assert_eq!(frame, Frame::Show { chare }, "{args:?}");
                 let answered = matches!(answer, Answer::Shown { .. });

@@ -28,10 +28,11 @@ TN, or through the processing that sent B's message, or through a chain of such 
 list does not do one of them. Without a pair it prints all of them, each with the ones that arrows
 come from and all that came before it. A row of more than 512 is bad. docs/BEFORE.md has an example.
 
-variants changes injected values alone: each becomes another one with as many decimal digits. That every
-line stays, but for the states that shows give, is checked. The lists are in words, without comments,
-if LIST is, else in digits. They are printed, if N is above 1 each under a line \"# variant 1 of N\",
-or written to files with --out. A list that injects nothing, or too little for N variants, has none.
+variants changes injected values alone: each becomes another one with as many decimal digits. It is
+checked that every line stays, but for the states that shows give. The lists are in words, without
+comments, if LIST is, else in digits. They are printed, if N is above 1 each under a line
+\"# variant 1 of N\", or written to files with --out. A list that injects nothing, or too little for N
+variants, has none.
 
 --quick               play with the second implementation, which builds in seconds: these are not
                       the proved engine's lines, and every such run says so

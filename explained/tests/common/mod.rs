@@ -6,6 +6,7 @@
 pub mod c;
 pub mod documents;
 pub mod run;
+pub mod seen;
 pub mod steps;
 pub mod svg;
 pub mod told;
