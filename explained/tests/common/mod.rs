@@ -5,6 +5,7 @@
 
 pub mod c;
 pub mod documents;
+pub mod named;
 pub mod run;
 pub mod seen;
 pub mod steps;
