@@ -5,11 +5,10 @@
 # empty lines fill the buffer of answers, which is full amid frames; the last line has no newline.
 set -euo pipefail
 root=$(cd "$(dirname "$0")/.." && pwd)
-cargo build --release --offline --quiet --manifest-path "$root/reference/Cargo.toml"
-bin=$root/reference/target/release
+cargo build --release --offline --quiet --manifest-path "$root/reference/Cargo.toml" --bin sitting
 read=65536 burst=20500 long=3000 last=6000
 work=$(mktemp -d); trap 'rm -rf "$work"' EXIT
-"$bin/lists" --machines 6 --chares 12 --frames 12000 --clean --with crash,restart,withdraw 12 >"$work/list"
+"$root/tools/lists" --machines 6 --chares 12 --frames 12000 --clean --with crash,restart,withdraw 12 >"$work/list"
 # the whole lines of a file's first $2 bytes, and what follows them
 lines() { head -c "$2" "$1" | sed '$d'; }
 lines "$work/list" $((read + 40)) >"$work/first"
@@ -25,4 +24,4 @@ lines "$work/after" $last >"$work/third"
   cat "$work/third"
   printf 1601
 } >"$root/crates/sitting/stdin"
-"$bin/sitting" <"$root/crates/sitting/stdin" >"$root/crates/sitting/stdout"
+"$root/reference/target/release/sitting" <"$root/crates/sitting/stdin" >"$root/crates/sitting/stdout"

@@ -1,9 +1,11 @@
-//! The proved programs, on inputs that come in pieces: what no contract can say of a program, a run must show. The gate names the folder
-//! that they were built to; without it this is left out.
+//! The proved programs: what no contract can say of a program, a run must show. On inputs that come in pieces; the gate names the folder
+//! that they were built to, and without it this is left out. And what the gate runs them on is what it should be.
 
+use reference::frame::LONGEST_LINE;
 use reference::generator::list;
 use reference::reader::answer_all;
 use reference::survivors;
+use std::fs;
 use std::io::{Read, Write};
 use std::path::PathBuf;
 use std::process::{Command, Stdio};
@@ -91,4 +93,51 @@ fn survivors_reads_in_pieces() {
             );
         }
     }
+}
+
+// ---- what the gate runs the programs on
+
+fn of_crate(path: &str) -> Vec<u8> {
+    let crates = PathBuf::from(env!("CARGO_MANIFEST_DIR")).join("../crates");
+    fs::read(crates.join(path)).expect("a file of a program")
+}
+
+/// The bytes of one read, and of the buffer for answers.
+const PIECE: usize = 65536;
+
+#[test]
+fn the_input_of_sitting() {
+    let input = of_crate("sitting/stdin");
+    let lines = answer_all(&input);
+    assert!(of_crate("sitting/stdout") == lines);
+    assert!(input.len() > 2 * PIECE && !input.ends_with(b"\n"));
+    // How long the line is that lies across the end of a read.
+    let across = |end: usize| {
+        let before = input[..end].iter().rev().take_while(|&&b| b != b'\n');
+        let after = input[end..].iter().take_while(|&&b| b != b'\n').count();
+        assert!(before.clone().count() > 0 && after > 0);
+        before.count() + after
+    };
+    assert!(across(PIECE) <= LONGEST_LINE && across(2 * PIECE) > LONGEST_LINE);
+    // The answers to one read need the buffer twice.
+    let until = |end: usize| answer_all(&input[..end]).len();
+    assert!(until(2 * PIECE) - until(PIECE) > PIECE);
+}
+
+#[test]
+fn the_inputs_of_the_other_programs() {
+    assert!(of_crate("survivors/stdout") == survivors::answer(&of_crate("survivors/stdin")));
+    let mut lines = Vec::new();
+    for name in of_crate("sittings/args").split(|&b| b == b'\n') {
+        let Ok(name) = std::str::from_utf8(name) else {
+            panic!("a name of a list");
+        };
+        if !name.is_empty() {
+            let list = of_crate(&format!("sittings/data/{name}"));
+            lines.extend_from_slice(name.as_bytes());
+            lines.push(b'\n');
+            lines.extend_from_slice(&answer_all(&list));
+        }
+    }
+    assert!(of_crate("sittings/stdout") == lines);
 }
