@@ -22,6 +22,7 @@ pub mod ahead;
 pub mod state;
 
 pub mod page;
+pub mod paper;
 pub mod picture;
 
 pub mod command;

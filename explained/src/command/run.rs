@@ -6,10 +6,11 @@ use super::usage::HELP;
 use super::{variants, Failure, DIFFERENT, DONE, NEEDS_ENGINE};
 use crate::hints::hints;
 use crate::lines::cut;
-use crate::picture::{check_length, Drawing, Story};
+use crate::picture::{check_length, Drawing, Roll, Sheets, Story};
 use crate::state::Wrong;
-use crate::{ahead, before, engine, notation, page, report, state, survivors};
+use crate::{ahead, before, engine, notation, page, paper, report, state, survivors, version};
 use reference::reader::answer_all;
+use std::ffi::OsStr;
 use std::fmt::Display;
 
 /// Is the call good, and its list? Says whether the engine is needed.
@@ -112,13 +113,9 @@ pub fn lines_of(asked: &Asked, digits: &[u8]) -> Vec<u8> {
 
 /// What needs the lines of the list.
 fn with_lines(asked: &Asked, digits: &[u8]) -> Result<u8, Failure> {
-    let lines = lines_of(asked, digits);
-    let whose = match asked.quick {
-        true => QUICK,
-        false => "the proved engine's",
-    };
-    let ask = (!asked.quick).then_some(engine::precedes as before::Ask);
     say_whose(asked);
+    let lines = lines_of(asked, digits);
+    let ask = (!asked.quick).then_some(engine::precedes as before::Ask);
     match asked.task {
         Task::Play => print(&lines).map(|()| DONE),
         Task::State(number) => match state::after(digits, &lines, number) {
@@ -129,7 +126,7 @@ fn with_lines(asked: &Asked, digits: &[u8]) -> Result<u8, Failure> {
         Task::Next => said(ahead::next(digits, &lines)),
         Task::Before => said(before::text(digits, &lines, ask, &asked.pairs)),
         Task::Page => {
-            let page = page::page(&title(asked), whose, digits, &lines, ask);
+            let page = page::page(&title(asked), &made_by(asked, digits), digits, &lines, ask);
             let page = page.map_err(|message| too_long(asked, message))?;
             put_file(asked, &page.html)?;
             Ok(status(page.wrong))
@@ -153,7 +150,7 @@ fn explained(asked: &Asked, digits: &[u8], lines: &[u8]) -> Result<u8, Failure> 
     }
     let report = report::report(digits, lines);
     if asked.out.is_some() {
-        put_picture(asked, &report.story)?;
+        put_picture(asked, &made_by(asked, digits), &report.story)?;
     }
     if asked.task == Task::Explain {
         print(report.text.as_bytes())?;
@@ -170,6 +167,18 @@ fn title(asked: &Asked) -> String {
     }
 }
 
+/// What made a file, and from which list: it outlives the run.
+fn made_by(asked: &Asked, digits: &[u8]) -> String {
+    let engine = version::engine(asked.quick);
+    format!("Lines of the {engine}, {}", made_from(digits))
+}
+
+/// The hash is that of the digits, whichever form the list has.
+fn made_from(digits: &[u8]) -> String {
+    let (version, hash) = (version::VERSION, version::hash(digits));
+    format!("satuphir {version}, list {hash}")
+}
+
 fn too_long(asked: &Asked, message: String) -> Failure {
     Failure::File(format!("{}: {message}", files::title(&asked.list)))
 }
@@ -181,19 +190,25 @@ fn put_file(asked: &Asked, text: &str) -> Result<(), Failure> {
     }
 }
 
-fn put_picture(asked: &Asked, story: &Story) -> Result<(), Failure> {
-    let drawing = Drawing::new(&title(asked), story);
-    let drawing = drawing.map_err(|message| too_long(asked, message))?;
+/// The picture, or its sheets and beside them one file with all.
+fn put_picture(asked: &Asked, made_by: &str, story: &Story) -> Result<(), Failure> {
+    let name = title(asked);
+    let too_long = |message| too_long(asked, message);
     if !asked.pages {
+        let drawing = Drawing::new(&name, made_by, story).map_err(too_long)?;
         return put_file(asked, &drawing.whole());
     }
+    let roll = Roll::new(story).map_err(too_long)?;
+    let sheets = Sheets::new(&name, made_by, &roll);
     let out = asked.out.as_deref().unwrap_or_default();
-    for (at, page) in drawing.pages().iter().enumerate() {
-        let out = files::page(out, at + 1);
-        files::keep_apart(&asked.list, &out)?;
-        files::write(&out, page)?;
+    let put = |out: &OsStr, text: &str| {
+        files::keep_apart(&asked.list, out)?;
+        files::write(out, text)
+    };
+    for (at, sheet) in sheets.files().iter().enumerate() {
+        put(&files::page(out, at + 1), sheet)?;
     }
-    Ok(())
+    put(&files::printable(out), &paper::picture(&name, &sheets))
 }
 
 pub fn status(difference: Option<impl Display>) -> u8 {

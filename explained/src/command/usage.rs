@@ -37,7 +37,8 @@ variants, has none.
 --quick               play with the second implementation, which builds in seconds: these are not
                       the proved engine's lines, and every such run says so
 --picture OUT.svg     with explain: the picture too
---pages               with picture: one file for each sheet of A4, OUT-1.svg, OUT-2.svg, ...
+--pages               with picture: one file for each sheet of A4, OUT-1.svg, OUT-2.svg, ..., and
+                      OUT-print.html with all of them, to print
 --seed S              with variants: the same seed gives the same lists; 1 if it is not said
 --out OUT             with variants: for OUT.txt the files OUT-1.txt, OUT-2.txt, ...; in the folder
                       OUT, if it is one, files with the list's name and a number
