@@ -21,6 +21,7 @@ pub mod words;
 pub mod ahead;
 pub mod state;
 
+pub mod handout;
 pub mod page;
 pub mod paper;
 pub mod picture;

@@ -4,11 +4,14 @@ use super::args::{Asked, Task};
 use super::files::{self, print};
 use super::usage::HELP;
 use super::{variants, Failure, DIFFERENT, DONE, NEEDS_ENGINE};
+use crate::handout::Sort;
 use crate::hints::hints;
 use crate::lines::cut;
 use crate::picture::{check_length, Drawing, Roll, Sheets, Story};
 use crate::state::Wrong;
-use crate::{ahead, before, engine, notation, page, paper, report, state, survivors, version};
+use crate::{
+    ahead, before, engine, handout, notation, page, paper, report, state, survivors, version,
+};
 use reference::reader::answer_all;
 use std::ffi::OsStr;
 use std::fmt::Display;
@@ -66,6 +69,10 @@ pub fn run(asked: &Asked) -> Result<u8, Failure> {
             say(&hints(&input));
             return variants::run(asked, &input, &digits);
         }
+        Task::Handout(sort) => {
+            say(&hints(&input));
+            return hand_out(asked, sort, &digits);
+        }
         _ => {
             say(&hints(&input));
             return with_lines(asked, &digits);
@@ -109,6 +116,21 @@ pub fn lines_of(asked: &Asked, digits: &[u8]) -> Vec<u8> {
         true => answer_all(digits),
         false => engine::lines(digits),
     }
+}
+
+/// The handout has no lines, a key has those of each chare's end too.
+fn hand_out(asked: &Asked, sort: Sort, digits: &[u8]) -> Result<u8, Failure> {
+    let (title, made_by, lines) = match sort {
+        Sort::Blank => (files::title(&asked.list), made_from(digits), Vec::new()),
+        _ => {
+            say_whose(asked);
+            let lines = lines_of(asked, &handout::with_shows(digits));
+            (title(asked), made_by(asked, digits), lines)
+        }
+    };
+    let made = handout::handout(&title, &made_by, sort, digits, &lines);
+    put_file(asked, &made.html)?;
+    Ok(status(made.difference))
 }
 
 /// What needs the lines of the list.
