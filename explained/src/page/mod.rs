@@ -55,7 +55,7 @@ pub fn page(
         Err(wrong) => (quoted(NOT_SAID), Some(wrong)),
     };
     let data = format!(
-        "{{\"moments\":{},\"rows\":{},\"works\":{works},\"answers\":{ANSWERS_AT}}}",
+        "{{\"answers\":{ANSWERS_AT},\"moments\":{},\"rows\":{},\"works\":{works}}}",
         array(moments),
         array(rows.collect())
     );

@@ -55,7 +55,8 @@ function cover(top, height) {
   const [answer, rest] = covers;
   answer.setAttribute('y', top);
   answer.setAttribute('height', asking && !open ? height : 0);
-  rest.setAttribute('y', top + height);
+  // Half a line over the row's edge, so that nothing shines through.
+  rest.setAttribute('y', top + height - 0.5);
   rest.setAttribute('height', asking ? Math.max(0, svg.viewBox.baseVal.height - top - height) : 0);
   picture.classList.toggle('hidden', asking);
 }
