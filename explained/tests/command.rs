@@ -3,7 +3,7 @@
 mod common;
 
 use common::run::{fed, fresh, run};
-use common::{explained, folder, list, written};
+use common::{explained, folder, list, made_by, written};
 use explained::notation::decode;
 use reference::reader::answer_all;
 use std::fs;
@@ -160,7 +160,13 @@ fn picture_and_its_pages() {
     assert_eq!(run(&args(&["--pages"])).0, 0);
     let there: Vec<PathBuf> = (1..=3).map(|n| at(&format!("out-{n}.svg"))).collect();
     assert!(there.iter().all(|file| file.is_file()) && !at("out-4.svg").exists());
-    // Beside them one file with all, to print.
+    // Each says what made it; beside them is one file with all, to print.
+    let says = |file: &PathBuf| {
+        fs::read_to_string(file)
+            .expect("a sheet")
+            .contains(&made_by(&list(name)))
+    };
+    assert!(there.iter().all(says));
     let all = fs::read_to_string(at("out-print.html")).expect("a file to print");
     assert_eq!(all.matches("<div class=\"sheet\">").count(), 3);
     assert!(all.contains("@page { size: A4 landscape;"));
@@ -327,9 +333,10 @@ fn page_is_written() {
     let out = fresh("page").join("out.html");
     let (status, said, error) = run(&["page", &file(NAME), out.to_str().expect("a name")]);
     assert_eq!((status, said.as_str(), error.as_str()), (0, "", ""));
-    assert!(fs::read_to_string(out)
-        .expect("a page")
-        .starts_with("<!DOCTYPE html>"));
+    let page = fs::read_to_string(out).expect("a page");
+    assert!(page.starts_with("<!DOCTYPE html>"));
+    // On the screen and on paper.
+    assert!(page.matches(&made_by(&list(NAME))).count() >= 2);
 }
 
 /// Every run with `--quick` says that its lines are not the proved engine's.

@@ -115,11 +115,7 @@ fn keys_of_the_examples() {
         if shown.last() != Some(&b'\n') {
             shown.push(b'\n');
         }
-        for row in &rows[input
-            .split(|&b| b == b'\n')
-            .filter(|l| !l.is_empty())
-            .count()..]
-        {
+        for row in &rows[cut(&input).len()..] {
             let words = row[1].replace("<p>", "").replace("</p>", "");
             assert!(words.starts_with("show "), "{name}: {words}");
             shown.extend(notation::encode(format!("{words}\n").as_bytes()).expect("a show"));

@@ -115,12 +115,12 @@ fn check_search(browser: &mut Browser, moments: &[Moment]) {
 fn check_class_mode(browser: &mut Browser, moments: &[Moment]) {
     browser.go_to(0);
     browser.press("h", 72);
-    for at in 0..moments.len().min(20) {
+    for (at, moment) in moments.iter().enumerate().take(20) {
         let head = browser.value("part('head').textContent");
-        let (frame, line) = moments[at].head.rsplit_once("  ->  ").expect("a line");
+        let (frame, line) = moment.head.rsplit_once("  ->  ").expect("a line");
         assert_eq!(head, frame, "frame {}", at + 1);
         let seen = browser.value("part('side').innerText + part('state').textContent");
-        let words = moments[at].text.lines().next().unwrap_or_default();
+        let words = moment.text.lines().next().unwrap_or_default();
         assert!(!seen.contains(words), "frame {}: {words}", at + 1);
         // Where its line would stand in the picture there is nothing, nor anywhere below.
         let cover = "covers.map((c) => c.getBoundingClientRect()).map((c) => c.top + ' ' + c.bottom).join(' ')";
@@ -140,7 +140,7 @@ fn check_class_mode(browser: &mut Browser, moments: &[Moment]) {
             _ => browser.press("ArrowRight", 39),
         }
         let head = browser.value("part('head').textContent");
-        assert_eq!(head, moments[at].head, "frame {}", at + 1);
+        assert_eq!(head, moment.head, "frame {}", at + 1);
         browser.press("ArrowRight", 39);
     }
     browser.go_to(0);

@@ -52,13 +52,13 @@ pub fn html(parts: &Parts) -> String {
 {tools}<p>{made_by}.</p>
 </header>
 <main>
-<div id=\"picture\" tabindex=\"0\" aria-label=\"picture\">
+<div id=\"picture\" tabindex=\"0\" role=\"region\" aria-label=\"picture\">
 <div id=\"heads\">
 {heads}</div>
 <div id=\"rows\">
 {picture}</div>
 </div>
-<div id=\"side\" tabindex=\"0\" aria-label=\"panel\">
+<div id=\"side\" tabindex=\"0\" role=\"region\" aria-label=\"panel\">
 <section><h2 id=\"head\"></h2><div id=\"text\" aria-live=\"polite\"></div></section>
 <section><h2>Packet</h2><p id=\"packet\"></p></section>
 <section><h2>What came before</h2><div id=\"order\" tabindex=\"-1\" aria-live=\"polite\"></div></section>

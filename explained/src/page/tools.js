@@ -1,37 +1,25 @@
 // Buttons, keys, pointer, address.
 const KINDS = ['refusal', 'crash', 'quiet'];
 
-// The next frame with a property, or the one before; true if there is one.
-function jump(has, step) {
-  for (let at = now + step; at >= 0 && at < count; at += step) {
-    if (has(data.moments[at])) {
-      show(at);
-      return true;
-    }
-  }
-  return false;
-}
+// The frames with a property, and the next of them or the one before.
+const placesOf = (has) => data.moments.flatMap((moment, at) => (has(moment) ? [at] : []));
+const nextOf = (places, step) => (step > 0 ? places.find((at) => at > now) : places.filter((at) => at < now).pop());
 
 function jumpTo(kind, step) {
-  const found = jump((moment) => moment.is.includes(kind), step);
-  part('found').textContent = found ? '' : 'no ' + (step > 0 ? 'further ' : 'earlier ') + kind;
+  const at = nextOf(placesOf((moment) => moment.is.includes(kind)), step);
+  part('found').textContent = at === undefined ? 'no ' + (step > 0 ? 'further ' : 'earlier ') + kind : '';
+  if (at !== undefined) show(at);
 }
 
-// In class mode what is hidden is not searched.
+// Round the end; in class mode what is hidden is not searched.
 function find(step) {
   const wanted = part('find').value.trim().toLowerCase();
   if (wanted === '') return;
-  const said = (moment) => (asking ? question(moment) : [moment.head, ...moment.text].join('\n')).toLowerCase();
-  const has = (moment) => said(moment).includes(wanted);
-  const all = data.moments.filter(has).length;
-  const start = now;
-  if (all > 0 && !jump(has, step)) {
-    // From the other end.
-    now = step > 0 ? -1 : count;
-    if (!jump(has, step)) now = start;
-  }
-  const place = data.moments.slice(0, now + 1).filter(has).length;
-  part('found').textContent = all === 0 ? 'nowhere' : place + ' of ' + all;
+  const said = (moment) => (asking ? question(moment) : [moment.head, ...moment.text].join('\n'));
+  const places = placesOf((moment) => said(moment).toLowerCase().includes(wanted));
+  const at = nextOf(places, step) ?? places.at(step > 0 ? 0 : -1);
+  part('found').textContent = at === undefined ? 'nowhere' : places.indexOf(at) + 1 + ' of ' + places.length;
+  if (at !== undefined) show(at);
 }
 
 function openNumber(text) {
@@ -109,7 +97,8 @@ document.addEventListener('keydown', (event) => {
 picture.addEventListener('click', (event) => {
   const y = new DOMPoint(event.clientX, event.clientY).matrixTransform(svg.getScreenCTM().inverse()).y;
   const at = data.rows.findIndex(([top, height]) => top <= y && y < top + height);
-  if (at >= 0 && part('rows').contains(event.target)) show(at);
+  // In class mode what is still to come is no place to go to.
+  if (at >= 0 && part('rows').contains(event.target) && !(asking && at > now)) show(at);
 });
 picture.addEventListener('mouseover', (event) => {
   if (asking) return;

@@ -8,12 +8,23 @@ let zoom = 1;
 // As wide as the window, until somebody wants another size.
 let fitted = true;
 
+// Where there is room, the columns at the left stay in view.
+const columns = [part('columns'), part('names')];
+const taken = columns[0].querySelector('rect').width.baseVal.value;
+const stay = () => picture.clientWidth > 3 * taken * LEAST;
+
+function keepColumns() {
+  const x = stay() ? picture.scrollLeft / zoom : 0;
+  for (const one of columns) one.setAttribute('transform', `translate(${x} 0)`);
+}
+
 function setZoom(to) {
   zoom = Math.min(MOST, Math.max(LEAST, to));
   for (const one of pictures) one.style.width = wide * zoom + 'px';
   part('zoom').textContent = Math.round(zoom * 100) + ' %';
   part('smaller').disabled = zoom === LEAST;
   part('larger').disabled = zoom === MOST;
+  keepColumns();
 }
 
 function fit() {
@@ -34,8 +45,11 @@ function scrollTo(area, x) {
   if (area.top < frame.top + names || area.bottom > frame.top + picture.clientHeight) {
     picture.scrollTop += area.top - frame.top - names - (picture.clientHeight - names) / 3;
   }
-  const room = Math.min(100, picture.clientWidth / 4);
-  const [least, most] = [x * zoom + room - picture.clientWidth, x * zoom - room];
+  const left = stay() ? taken * zoom : 0;
+  const room = Math.min(100, (picture.clientWidth - left) / 4);
+  const [least, most] = [x * zoom + room - picture.clientWidth, x * zoom - room - left];
   picture.scrollLeft = Math.min(most, Math.max(least, picture.scrollLeft));
 }
+
+picture.addEventListener('scroll', keepColumns);
 

@@ -1,10 +1,10 @@
 //! The picture as one roll, for the page: its rows without title, legend and sheets, and the names of its lanes apart.
 
 use super::draw::{folded, rows};
-use super::layout::{pill_width, Layout};
+use super::layout::{pill_width, Layout, LANES_FROM};
 use super::marked::MarkKind;
 use super::record::{Row, Story};
-use super::svg::{inline, Point, Svg};
+use super::svg::{inline, Area, Point, Svg};
 use super::{columns, lanes, legend};
 
 /// The rows, and where each frame stands in them.
@@ -57,14 +57,29 @@ impl Roll {
         })
     }
 
-    /// The rows.
+    /// The rows; the columns at their left are a group of their own, which a page keeps in view.
     pub fn picture(&self) -> String {
-        inline(&self.body.body(), self.layout.width, self.layout.bottom())
+        let (width, height) = (self.layout.width, self.layout.bottom());
+        let mut ground = ground(height);
+        for at in (0..self.story.rows.len()).step_by(2) {
+            let row = self.layout.row(at);
+            ground.rect(
+                Area {
+                    width: LANES_FROM,
+                    ..row
+                },
+                0.0,
+                columns::GROUND,
+            );
+        }
+        inline(&apart("columns", &ground, &self.body), width, height)
     }
 
     /// The names of columns and lanes, as wide as the rows.
     pub fn heads(&self) -> String {
-        inline(&self.names().body(), self.layout.width, lanes::HEADS)
+        let ground = ground(lanes::HEADS);
+        let body = apart("names", &ground, &self.names());
+        inline(&body, self.layout.width, lanes::HEADS)
     }
 
     pub(super) fn names(&self) -> Svg {
@@ -74,6 +89,30 @@ impl Roll {
         lanes::put_heads(&mut svg, &self.story, &self.layout, DOWN);
         svg
     }
+}
+
+/// What lies under the columns at the left, and hides what is moved there.
+fn ground(height: f64) -> Svg {
+    let mut svg = Svg::new();
+    let area = Area {
+        x: 0.0,
+        y: 0.0,
+        width: LANES_FROM,
+        height,
+    };
+    svg.rect(area, 0.0, "fill=\"#fff\"");
+    svg
+}
+
+/// All shapes, those of the columns at the left in a group, over its own ground.
+fn apart(name: &str, ground: &Svg, body: &Svg) -> String {
+    let is_left = |area: &Area| area.x + area.width <= LANES_FROM;
+    format!(
+        "{}<g id=\"{name}\">\n{}{}</g>\n",
+        body.shapes(|area| !is_left(area)),
+        ground.body(),
+        body.shapes(is_left)
+    )
 }
 
 /// The legend, so wide.

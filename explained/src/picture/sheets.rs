@@ -1,7 +1,7 @@
 //! The picture on paper: sheets of A4 with type that can be read. A picture that is too wide for one sheet is folded: each stretch of
 //! its rows stands on several sheets side by side, with the columns of the frames on each.
 
-use super::layout::{Layout, LANES_FROM, PAGE_TITLE, SLOT};
+use super::layout::{Layout, LANES_FROM, SLOT};
 use super::roll::Roll;
 use super::svg::{file, inline, Anchor, Area, Point, Svg};
 use super::{lanes, legend};
@@ -21,6 +21,8 @@ const MOST_POINTS: f64 = 9.0;
 
 const TITLE_AT: f64 = 18.0;
 const LEGEND_AT: f64 = 62.0;
+/// Where the names of the lanes stand on a sheet without a legend.
+const NAMES_AT: f64 = 46.0;
 const FOOT: f64 = 22.0;
 
 /// All sheets of a picture, of one size.
@@ -41,38 +43,32 @@ impl Sheets {
         let widest = strips.iter().map(|(from, to)| to - from);
         let widest = LANES_FROM + widest.fold(0.0, f64::max);
         let (wide, high) = room(lying);
-        let scale = (widest / wide).max(TYPE / (MOST_POINTS / POINTS_OF_MM));
+        let scale = (widest / wide).max(TYPE * POINTS_OF_MM / MOST_POINTS);
         let (width, height) = (wide * scale, high * scale);
-        let mut svg = Svg::new();
-        let legend = legend::put_legend(&mut svg, width, LEGEND_AT);
-        let room = |head: f64| height - head - lanes::HEADS - FOOT;
-        let heads = [legend, LEGEND_AT - PAGE_TITLE / 2.0];
-        let stretches = stretches(&roll.layout, roll.story.rows.len(), heads.map(room));
+        let mut signs = Svg::new();
+        let heads = [legend::put_legend(&mut signs, width, LEGEND_AT), NAMES_AT];
+        let free = heads.map(|head| height - head - lanes::HEADS - FOOT);
+        let stretches = stretches(&roll.layout, roll.story.rows.len(), free);
         let count = stretches.len() * strips.len();
         let mut bodies = Vec::new();
-        for stretch in &stretches {
-            for (at, strip) in strips.iter().enumerate() {
+        for &stretch in &stretches {
+            for (part, &strip) in (1..).zip(&strips) {
                 let number = bodies.len() + 1;
-                let mut body = match number {
-                    1 => svg.body(),
-                    _ => String::new(),
+                let (mut body, head) = match number {
+                    1 => (signs.body(), heads[0]),
+                    _ => (String::new(), heads[1]),
                 };
-                let head = heads[usize::from(number > 1)];
-                let mut words = format!("sheet {number} of {count}");
+                let mut sheet = format!("sheet {number} of {count}");
                 if strips.len() > 1 {
-                    words.push_str(&format!(
-                        ", part {} of {} from the left",
-                        at + 1,
-                        strips.len()
-                    ));
+                    sheet += &format!(", part {part} of {} from the left", strips.len());
                 }
                 let place = Place {
-                    stretch: *stretch,
-                    strip: *strip,
+                    stretch,
+                    strip,
                     head,
                 };
-                body.push_str(&titles(title, made_by, &words, (width, height)));
-                body.push_str(&place.body(roll));
+                body += &titles(title, made_by, &sheet, (width, height));
+                body += &place.body(roll);
                 bodies.push(body);
             }
         }

@@ -208,9 +208,15 @@ impl Svg {
 
     /// All of it, a shape on each line.
     pub fn body(&self) -> String {
+        self.shapes(|_| true)
+    }
+
+    /// The shapes that stand where they are to.
+    pub fn shapes(&self, here: impl Fn(&Area) -> bool) -> String {
         let mut out = String::new();
         for item in &self.items {
             let _ = match item {
+                Item::Shape(_, area) if !here(area) => Ok(()),
                 Item::Shape(shape, _) => writeln!(out, "{shape}"),
                 Item::Packet(title) => {
                     writeln!(out, "<g class=\"packet\"><title>{title}</title>")
