@@ -44,13 +44,13 @@ impl Browser {
 
     /// Waits until this is so.
     pub fn wait(&mut self, what: &str) {
-        for _ in 0..100 {
+        for _ in 0..200 {
             if self.value(&format!("String({what})")) == "true" {
                 return;
             }
             sleep(Duration::from_millis(100));
         }
-        panic!("not within ten seconds: {what}");
+        panic!("not within twenty seconds: {what}");
     }
 
     /// The window's size; a narrow one is a phone's.

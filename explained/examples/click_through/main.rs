@@ -174,8 +174,7 @@ fn check(browser: &mut Browser, moments: &[Moment], at: usize) {
         .count();
     same("marks", frame, &marked, &changes.to_string());
     check_order(browser, frame, moments[at].order.as_ref());
-    let address = browser.value("location.hash");
-    same("address", frame, &address, &format!("#{frame}"));
+    browser.wait(&format!("location.hash === '#{frame}'"));
     // The row with the frame's number is marked, and in sight below the names of the lanes; a folded frame has no number.
     let seen = browser.value(&format!(
         "(() => {{ const r = row.getBoundingClientRect(), p = picture.getBoundingClientRect(), h = part('heads').getBoundingClientRect(); \

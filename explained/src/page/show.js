@@ -65,11 +65,15 @@ function keepInSight() {
   if (count > 0) scrollTo(row.getBoundingClientRect(), asking && !open ? 0 : data.rows[now][2]);
 }
 
-// The address follows. Some browsers allow only so many changes in a time: then it follows later.
+// The address follows. A browser allows only so many changes in a time, and refuses more with an error or without: then it follows later.
+let later = 0;
 function setAddress() {
+  clearTimeout(later);
+  const address = '#' + (now + 1);
   try {
-    history.replaceState(null, '', '#' + (now + 1));
+    history.replaceState(null, '', address);
   } catch {}
+  if (location.hash !== address) later = setTimeout(setAddress, 500);
 }
 
 function render() {
