@@ -108,10 +108,11 @@ impl Browser {
         text(&answer, "value")
     }
 
-    /// Moves the pointer to the middle of an element, scrolled into sight.
+    /// Moves the pointer to the middle of an element, scrolled into sight; a packet not below the columns at the left.
     pub fn point(&mut self, element: &str) -> (f64, f64) {
         let place = self.value(&format!(
-            "(() => {{ const e = {element}; e.scrollIntoView({{block: 'center', inline: 'nearest'}}); const r = e.getBoundingClientRect(); \
+            "(() => {{ const e = {element}; const inline = e.closest('.packet') ? 'center' : 'nearest'; \
+             e.scrollIntoView({{block: 'center', inline}}); keepColumns(); const r = e.getBoundingClientRect(); \
              return (r.left + r.width / 2) + ' ' + (r.top + r.height / 2); }})()"
         ));
         let place: Vec<f64> = place

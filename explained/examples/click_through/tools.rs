@@ -27,6 +27,8 @@ fn check_address(browser: &mut Browser, moments: &[Moment], page: &str) {
 /// Down scrolls the panel where it has the focus, and goes on elsewhere.
 fn check_scrolling(browser: &mut Browser, moments: &[Moment]) {
     browser.go_to(0);
+    // With all that can be opened it is longer than the window.
+    browser.value("(document.querySelectorAll('details').forEach((d) => { d.open = true; }), '')");
     browser.value("String(part('side').focus())");
     browser.press("ArrowDown", 40);
     browser.wait("part('side').scrollTop > 0");
@@ -87,18 +89,24 @@ fn check_jumps(browser: &mut Browser, moments: &[Moment]) {
 }
 
 fn check_search(browser: &mut Browser, moments: &[Moment]) {
-    let wanted = "goes out";
-    let has = |moment: &Moment| moment.text.contains(wanted);
+    // The first words of the last frame, in capitals: small and capital letters are the same.
+    let wanted = moments[moments.len() - 1].text.split(' ');
+    let wanted = wanted.take(2).collect::<Vec<_>>().join(" ").to_uppercase();
+    let has = |moment: &Moment| {
+        let said = format!("{}\n{}", moment.head, moment.text);
+        said.to_uppercase().contains(&wanted)
+    };
     let places = (1..moments.len()).filter(|&at| has(&moments[at]));
-    let first = places.clone().next().expect("a packet goes out");
-    let all = usize::from(has(&moments[0])) + places.count();
+    let first = places.clone().next().expect("the last frame at least");
+    let later = places.count() - 1;
+    let all = usize::from(has(&moments[0])) + 1 + later;
     browser.go_to(0);
     browser.press("/", 191);
-    browser.value(&format!("part('find').value = '{}'", wanted.to_uppercase()));
+    browser.value(&format!("part('find').value = '{wanted}'"));
     browser.press("Enter", 13);
     check(browser, moments, first);
     let said = browser.value("part('found').textContent");
-    assert_eq!(said, format!("1 of {all}"));
+    assert_eq!(said, format!("{} of {all}", all - later));
     // Round the end, back to the first.
     for _ in 0..all {
         browser.press("Enter", 13);
