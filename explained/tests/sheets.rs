@@ -59,7 +59,7 @@ struct Part<'a> {
 }
 
 fn parts(sheet: &str) -> Vec<Part<'_>> {
-    let parts = sheet.split("<svg x=").skip(1);
+    let parts = sheet.split("<svg class=").skip(1);
     let part = |part| Part {
         view: view(part),
         body: &part[..part.find("</svg>").expect("an end")],

@@ -9,6 +9,7 @@ pub fn check_all(browser: &mut Browser, moments: &[Moment], page: &str) {
     check_zoom(browser, moments);
     check_jumps(browser, moments);
     check_search(browser, moments);
+    check_print(browser, moments);
     check_class_mode(browser, moments);
 }
 
@@ -117,6 +118,31 @@ fn check_search(browser: &mut Browser, moments: &[Moment]) {
     assert_eq!(browser.value("part('found').textContent"), "nowhere");
     check(browser, moments, first);
     browser.press("Escape", 27);
+}
+
+/// The words of a processing that is shown are printed, and its marks on each sheet; of another frame there are none.
+fn check_print(browser: &mut Browser, moments: &[Moment]) {
+    let marked = "document.querySelectorAll('#print .marks').length";
+    let all = "document.querySelectorAll('#print .rows').length";
+    for (at, moment) in moments.iter().enumerate().take(20) {
+        browser.go_to(at);
+        browser.value("String(window.dispatchEvent(new Event('beforeprint')))");
+        let said = browser.value("part('chosen').textContent");
+        match &moment.order {
+            Some(order) => {
+                let start = format!("What came beforeProcessing {}, ", order.name);
+                assert!(said.starts_with(&start), "frame {}: {said}", at + 1);
+                assert_eq!(
+                    browser.value(&format!("String({marked} === {all})")),
+                    "true"
+                );
+            }
+            None => {
+                assert_eq!(said, "", "frame {}", at + 1);
+                assert_eq!(browser.value(&format!("String({marked})")), "0");
+            }
+        }
+    }
 }
 
 /// Line, words and all that comes later are hidden until a key is pressed.

@@ -30,6 +30,7 @@ pub fn html(parts: &Parts) -> String {
         include_str!("page.js"),
         include_str!("zoom.js"),
         include_str!("order.js"),
+        include_str!("print.js"),
         include_str!("show.js"),
         include_str!("tools.js"),
     ];

@@ -41,6 +41,7 @@ pub fn print(parts: &Parts, sheets: &Sheets) -> String {
 <div class=\"letters\">
 <h2>{heading}</h2>
 {letters}</div>
+<div id=\"chosen\"></div>
 {sheets}</div>
 ",
         title = escape(parts.title),

@@ -218,8 +218,8 @@ impl Place {
         };
         let (top, bottom) = self.stretch;
         let heads = Point::new(x, self.head);
-        let heads = roll.names().part(area(0.0, lanes::HEADS), heads);
+        let heads = roll.names().part("names", area(0.0, lanes::HEADS), heads);
         let rows = Point::new(x, self.head + lanes::HEADS);
-        heads + &roll.body.part(area(top, bottom - top), rows)
+        heads + &roll.body.part("rows", area(top, bottom - top), rows)
     }
 }

@@ -228,13 +228,13 @@ impl Svg {
     }
 
     /// What can be seen of it in an area, for paper, where nobody points at a packet: put at `at`, and cut at the area's edges.
-    pub fn part(&self, area: Area, at: Point) -> String {
+    pub fn part(&self, class: &str, area: Area, at: Point) -> String {
         let mut out = String::new();
         let [x, y, left, top, width, height] =
             [at.x, at.y, area.x, area.y, area.width, area.height].map(number);
         let _ = writeln!(
             out,
-            "<svg x=\"{x}\" y=\"{y}\" width=\"{width}\" height=\"{height}\" viewBox=\"{left} {top} {width} {height}\">"
+            "<svg class=\"{class}\" x=\"{x}\" y=\"{y}\" width=\"{width}\" height=\"{height}\" viewBox=\"{left} {top} {width} {height}\">"
         );
         for item in &self.items {
             match item {
