@@ -132,3 +132,41 @@ fn a_page_can_be_printed() {
     assert!(html.contains("counter(page) \" of \" counter(pages)"));
     assert!(html.contains("@bottom-left { content: \"a \\22 title\\22 \\3C \\2F style\\3E \";"));
 }
+
+/// The number that follows each of these words.
+fn numbers_after(text: &str, word: &str) -> Vec<f64> {
+    let number = |rest: &str| {
+        let end = rest.find(|letter: char| !letter.is_ascii_digit() && letter != '.');
+        rest[..end.unwrap_or(rest.len())].parse().expect("a number")
+    };
+    text.split(word).skip(1).map(number).collect()
+}
+
+/// Type has at least 9 px: on the page by its style, in the picture by its own size and the least zoom, in the legend by its least width.
+/// `tools/type-size.sh` measures it in a browser.
+#[test]
+fn type_is_never_too_small() {
+    let html = made("05", &list("05-crash-with-cover"));
+    let (_, style) = html.split_once("box-sizing").expect("the page's style");
+    let (style, _) = style.split_once("@media print").expect("an end");
+    let sizes = numbers_after(style, "font-size: ");
+    assert!(sizes.len() > 8 && sizes.iter().all(|&size| size >= 9.0));
+    let (_, shared) = html.split_once("<svg class=\"shared\"").expect("a style");
+    let (shared, _) = shared.split_once("</style>").expect("an end");
+    let least = numbers_after(shared, "font-size:")
+        .into_iter()
+        .fold(f64::MAX, f64::min);
+    let [zoom] = numbers_after(&html, "const LEAST = ")[..] else {
+        panic!("one least zoom");
+    };
+    assert!(least * zoom >= 9.0, "{least} at {zoom}");
+    let narrowest = numbers_after(
+        style,
+        "#legend svg { display: block; width: 100%; min-width: ",
+    )[0];
+    let (_, legend) = html
+        .split_once("<summary>Signs of the picture</summary>\n")
+        .expect("a legend");
+    let width = numbers_after(legend, "<svg width=\"")[0];
+    assert!(least * narrowest / width >= 9.0, "{narrowest} of {width}");
+}
