@@ -1,8 +1,8 @@
 //! What was asked, from the words of the call. Options may stand anywhere; after `--` there are none.
 
 use super::Failure;
-use crate::variants::MOST;
 use crate::handout::Sort;
+use crate::variants::MOST;
 use reference::precedes::Name;
 use std::ffi::{OsStr, OsString};
 
