@@ -24,3 +24,4 @@ pub mod page;
 pub mod picture;
 
 pub mod command;
+pub mod version;
