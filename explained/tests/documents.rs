@@ -5,7 +5,7 @@ mod common;
 use common::documents::{blocks, document, flowing, plain, root, rows};
 use common::run::{fed, fresh, run};
 use explained::names::joined;
-use explained::notation::{decode, encode};
+use explained::notation::{decode, digits};
 use explained::words::letter;
 use reference::answer::{Answer, Rule};
 use reference::limits::{LOG_SIZE, NOTES_SIZE, TABLE_SIZE, WINDOW_BITS, WIRE_SIZE};
@@ -160,7 +160,7 @@ fn the_frames_of_the_rules() {
         let words = plain(&row[0])
             .replace(" with ", "\n")
             .replace(", chare", "\nchare");
-        let digits = encode(words.as_bytes()).expect("a frame");
+        let digits = digits(words.as_bytes()).expect("a frame");
         assert_eq!(
             String::from_utf8_lossy(&digits).trim_end(),
             plain(&row[1]),

@@ -1,7 +1,8 @@
 //! Reading a list, writing a result. Every failure is named.
 
 use super::Failure;
-use crate::notation;
+use crate::names::count;
+use crate::notation::{self, List, Mistakes};
 use std::ffi::{OsStr, OsString};
 use std::fs;
 use std::io::{self, Read, Write};
@@ -28,9 +29,20 @@ pub fn read(list: &OsStr) -> Result<Vec<u8>, Failure> {
     }
 }
 
-/// The list in digits; a mistake in its words is named with line and column.
-pub fn digits(list: &OsStr, input: &[u8]) -> Result<Vec<u8>, Failure> {
-    notation::digits(input).map_err(|error| Failure::File(format!("{}, {error}", shown(list))))
+/// So many mistakes are told one by one.
+const TOLD: usize = 100;
+
+/// The list as it is played; every mistake in its words is named with line and column.
+pub fn list(list: &OsStr, input: &[u8]) -> Result<List, Failure> {
+    notation::read(input).map_err(|Mistakes(mistakes)| {
+        let told = mistakes.iter().take(TOLD);
+        let mut told: Vec<String> = told.map(|m| format!("{}, {m}", shown(list))).collect();
+        if mistakes.len() > TOLD {
+            let more = mistakes.len() - TOLD;
+            told.push(format!("{}: {}", shown(list), count(more, "more mistake")));
+        }
+        Failure::File(told.join("\nsatuphir: "))
+    })
 }
 
 fn shown(list: &OsStr) -> String {

@@ -18,7 +18,7 @@ pub fn check(asked: &Asked) -> Result<u8, Failure> {
         look_at_out(asked)?;
         if !files::is_standard_input(&asked.list) {
             let input = files::read(&asked.list)?;
-            files::digits(&asked.list, &input)?;
+            files::list(&asked.list, &input)?;
         }
     }
     Ok(match asked.needs_engine() {
@@ -51,20 +51,18 @@ pub fn run(asked: &Asked) -> Result<u8, Failure> {
     }
     look_at_out(asked)?;
     let input = files::read(&asked.list)?;
-    let digits = files::digits(&asked.list, &input)?;
+    let list = files::list(&asked.list, &input)?;
+    let digits = &list.digits;
     match asked.task {
-        Task::Encode => print(&digits)?,
-        Task::Decode => print(notation::decode(&digits).as_bytes())?,
-        Task::Survivors => {
-            say(&survivors::notes(&input, &digits));
-            return counts(asked, &digits);
-        }
-        _ => {
-            say(&hints(&input));
-            return with_lines(asked, &digits);
-        }
+        Task::Survivors => say(&survivors::notes(&input, digits)),
+        _ => say(&hints(&input)),
     }
-    Ok(DONE)
+    match asked.task {
+        Task::Encode => print(digits).map(|()| DONE),
+        Task::Decode => print(notation::decode(digits).as_bytes()).map(|()| DONE),
+        Task::Survivors => counts(asked, digits),
+        _ => with_lines(asked, digits),
+    }
 }
 
 fn say(notes: &[String]) {
