@@ -12,6 +12,7 @@ mod marks;
 mod record;
 mod routes;
 mod svg;
+mod title;
 mod tracks;
 
 pub use draw::{check_length, Drawing, Place, MOST_FRAMES, MOST_ROWS};
