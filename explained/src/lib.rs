@@ -20,8 +20,10 @@ pub mod words;
 pub mod ahead;
 pub mod state;
 
+pub mod data;
 pub mod page;
 pub mod picture;
+pub mod table;
 
 pub mod command;
 pub mod version;

@@ -7,12 +7,14 @@ use std::ffi::{OsStr, OsString};
 #[derive(Clone, Copy, Debug, PartialEq, Eq)]
 pub enum Task {
     Help,
+    Version,
     Play,
     Explain,
     Picture,
     Page,
     State(usize),
-    Next,
+    /// After so many frames, or after all of the list.
+    Next(Option<usize>),
     Survivors,
     Before,
     Encode,
@@ -23,8 +25,11 @@ pub struct Asked {
     pub task: Task,
     pub quick: bool,
     pub pages: bool,
+    /// The lines as a table, or any output as JSON.
+    pub table: bool,
+    pub json: bool,
     pub list: OsString,
-    /// The file to write, for a picture or a page.
+    /// The file to write, for a picture or a page; `-` is standard output.
     pub out: Option<OsString>,
     /// Of which processings it is asked whether the first came before the second.
     pub pairs: Vec<(Name, Name)>,
@@ -34,8 +39,11 @@ pub struct Asked {
 #[derive(Default)]
 struct Options {
     help: bool,
+    version: bool,
     quick: bool,
     pages: bool,
+    table: bool,
+    json: bool,
     picture: Option<OsString>,
 }
 
@@ -46,16 +54,21 @@ fn usage<T>(message: String) -> Result<T, Failure> {
 impl Asked {
     pub fn new(given: Vec<OsString>) -> Result<Asked, Failure> {
         let (options, words) = sort(given)?;
-        let help = Asked {
-            task: Task::Help,
+        let alone = |task: Task| Asked {
+            task,
             quick: false,
             pages: false,
+            table: false,
+            json: false,
             list: OsString::new(),
             out: None,
             pairs: Vec::new(),
         };
         if options.help {
-            return Ok(help);
+            return Ok(alone(Task::Help));
+        }
+        if options.version {
+            return Ok(alone(Task::Version));
         }
         let mut words = words.into_iter();
         let Some(name) = words.next() else {
@@ -65,14 +78,17 @@ impl Asked {
             Some(word) => Ok(word),
             None => usage(format!("{} needs {what}", name.to_string_lossy())),
         };
-        let task = match name.to_str() {
-            Some("help") => return Ok(help),
+        let mut task = match name.to_str() {
+            Some("help") => return Ok(alone(Task::Help)),
             Some("play") => Task::Play,
             Some("explain") => Task::Explain,
             Some("picture") => Task::Picture,
             Some("page") => Task::Page,
-            Some("state") => Task::State(frame(&word("the number of a frame, and a list")?)?),
-            Some("next") => Task::Next,
+            Some("state") => Task::State(frame(
+                &word("the number of a frame, and a list")?,
+                "state N LIST",
+            )?),
+            Some("next") => Task::Next(None),
             Some("survivors") => Task::Survivors,
             Some("before") => Task::Before,
             Some("encode") => Task::Encode,
@@ -84,7 +100,7 @@ impl Asked {
                 ))
             }
         };
-        let list = word("a list (a file, or - for standard input)")?;
+        let mut list = word("a list (a file, or - for standard input)")?;
         let out = match task {
             Task::Picture => Some(word("a file to write, such as out.svg")?),
             Task::Page => Some(word("a file to write, such as out.html")?),
@@ -95,6 +111,11 @@ impl Asked {
             Task::Before => pairs(words.by_ref())?,
             _ => Vec::new(),
         };
+        // Of two words, the first is the number.
+        if task == Task::Next(None) && words.len() > 0 {
+            task = Task::Next(Some(frame(&list, "next N LIST")?));
+            list = words.next().unwrap_or_default();
+        }
         if let Some(more) = words.next() {
             return usage(format!("\"{}\" is too much", more.to_string_lossy()));
         }
@@ -104,10 +125,21 @@ impl Asked {
         if options.pages && task != Task::Picture {
             return usage("--pages goes with picture alone".to_string());
         }
+        if options.table && task != Task::Play {
+            return usage("--table goes with play alone".to_string());
+        }
+        if options.json && !matches!(task, Task::Play | Task::State(_) | Task::Next(_)) {
+            return usage("--json goes with play, state and next alone".to_string());
+        }
+        if options.table && options.json {
+            return usage("--table and --json do not go together".to_string());
+        }
         Ok(Asked {
             task,
             quick: options.quick,
             pages: options.pages,
+            table: options.table,
+            json: options.json,
             list,
             out,
             pairs,
@@ -116,7 +148,11 @@ impl Asked {
 
     /// Does it need lines, and are these to be the proved engine's?
     pub fn needs_engine(&self) -> bool {
-        !self.quick && !matches!(self.task, Task::Help | Task::Encode | Task::Decode)
+        !self.quick
+            && !matches!(
+                self.task,
+                Task::Help | Task::Version | Task::Encode | Task::Decode
+            )
     }
 }
 
@@ -130,8 +166,11 @@ fn sort(given: Vec<OsString>) -> Result<(Options, Vec<OsString>), Failure> {
                 words.extend(given.by_ref());
             }
             Some("--help" | "-h") => options.help = true,
+            Some("--version" | "-V") => options.version = true,
             Some("--quick") => options.quick = true,
             Some("--pages") => options.pages = true,
+            Some("--table") => options.table = true,
+            Some("--json") => options.json = true,
             Some("--picture") => match given.next() {
                 Some(file) => options.picture = Some(file),
                 None => return usage("--picture needs a file to write".to_string()),
@@ -151,11 +190,11 @@ fn is_option(word: &OsStr) -> bool {
     bytes.len() > 1 && bytes[0] == b'-'
 }
 
-fn frame(word: &OsStr) -> Result<usize, Failure> {
+fn frame(word: &OsStr, call: &str) -> Result<usize, Failure> {
     match word.to_str().and_then(|word| word.parse().ok()) {
         Some(number) => Ok(number),
         None => usage(format!(
-            "\"{}\" is no number of a frame: state N LIST, N from 0",
+            "\"{}\" is no number of a frame: {call}, N from 0",
             word.to_string_lossy()
         )),
     }

@@ -1,6 +1,6 @@
 //! One page to click through: the picture beside the words, and the state of the moment. It fetches nothing from elsewhere.
 
-mod json;
+pub mod json;
 mod works;
 
 use crate::before::row::Row;

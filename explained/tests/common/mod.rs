@@ -5,6 +5,7 @@
 
 pub mod c;
 pub mod documents;
+pub mod json;
 pub mod run;
 pub mod steps;
 pub mod svg;
@@ -13,6 +14,7 @@ pub mod told;
 use explained::before::row::Row;
 use explained::before::Ask;
 use explained::engine;
+use explained::notation::Places;
 use explained::page::page;
 use explained::picture::{Drawing, Story};
 use explained::play::play;
@@ -53,7 +55,7 @@ pub fn widest_lists() -> impl Iterator<Item = (u64, Vec<u8>)> {
 }
 
 pub fn explained(input: &[u8]) -> Report {
-    let report = report(input, &engine::lines(input));
+    let report = report(input, &engine::lines(input), &Places::default());
     assert_eq!(report.difference, None);
     report
 }
