@@ -43,12 +43,16 @@ impl Source<'_> {
         object(&[&head, fields].concat()) + "\n"
     }
 
+    /// A frame's line in the list.
+    fn place(&self, frame: usize) -> usize {
+        self.places.line(frame).unwrap_or(frame)
+    }
+
     /// Number, line in the list, digits, words and line of a frame.
     fn frame(&self, step: &Step) -> Vec<(&'static str, String)> {
-        let place = self.places.line(step.number).unwrap_or(step.number);
         vec![
             ("frame", step.number.to_string()),
-            ("at", place.to_string()),
+            ("at", self.place(step.number).to_string()),
             ("digits", quoted(&escaped(step.given))),
             ("words", quoted(&words(step.given).join("\n"))),
             ("line", quoted(step.line)),
@@ -95,6 +99,7 @@ impl Source<'_> {
         let groups: Vec<_> = moment.groups().iter().map(group).collect();
         Ok(self.with(&[
             ("frame", moment.frames.to_string()),
+            ("at", self.place(moment.frames).to_string()),
             ("job", moment.has_job().to_string()),
             ("lost_at", lost_at),
             ("next", object(&groups)),

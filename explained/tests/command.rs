@@ -75,8 +75,6 @@ fn every_subcommand_takes_words_and_digits() {
     let digits = "0102020201010200020000\n1001000301\n110100010001\n110200010001\n110300010001\n1201\n1401\n1601\n";
     for args in [
         &["play", "-"][..],
-        &["explain", "-"],
-        &["state", "6", "-"],
         &["next", "-"],
         &["survivors", "-"],
         &["before", "-"],
@@ -87,6 +85,20 @@ fn every_subcommand_takes_words_and_digits() {
         assert_eq!(in_words, in_digits, "{args:?}");
         assert_eq!(in_words.0, 0);
         said_nothing(&in_words.2);
+    }
+    // Of words the line in the list is told too.
+    for args in [&["explain", "-"][..], &["state", "6", "-"]] {
+        let (status, out, error) = fed(args, WORDS.as_bytes());
+        let mut told = String::new();
+        for (at, part) in out.split(" (line ").enumerate() {
+            told.push_str(if at == 0 {
+                part
+            } else {
+                &part[part.find(')').expect("an end") + 1..]
+            });
+        }
+        let want = fed(args, digits.as_bytes());
+        assert_eq!((status, told, error), want, "{args:?}");
     }
     let (_, out, _) = fed(&["play", "-"], WORDS.as_bytes());
     assert_eq!(out, "00J\n00J\n00C\n00G\n00H\n00J\n00J\n05\n");
@@ -169,7 +181,7 @@ fn state_shows_all_that_stands() {
     assert_eq!(status, 0);
     said_nothing(&error);
     for want in [
-        "After frame 6:  1201  work 1  ->  00J\nRule J (any other accepted frame): ",
+        "After frame 6 (line 10):  1201  work 1  ->  00J\nRule J (any other accepted frame): ",
         "    machine 1: up\n",
         "  * height 1, state 00000023 (before: height 0, state 00000001)\n",
         "  * worked of the desk: mark 1, window empty\n",
@@ -262,7 +274,7 @@ fn next_says_what_is_accepted_and_what_is_blocked() {
     for want in [
         "Packets that can be delivered\n  deliver ASK 1>2 #1       110101020001  Rule C, new ticket: chare 2 gives it TN 1 ",
         "Works that are blocked\n  work 1                   1201  05: Machine 1 is down.\n",
-        "  work 2                   1202  06: Chare 2 has given no TN 1.\n",
+        "  work 2                   1202  06: Chare 2 has given no TN 1; ASK 1→2 #1 is still on the wire.\n",
         "  restart 1                1501  Restart: ",
         "FF: The run would be lost, for machine 1 is down, and machine 1, the buddy, does not hold its copy.\n",
     ] {

@@ -171,6 +171,7 @@ fn next_as_json() {
         );
         let json = Json::read(&json);
         assert_eq!(json.get("frame").number(), number);
+        assert_eq!(json.get("at").number(), [0, 2, 6, 7, 8, 9][number]);
         assert_eq!(json.get("job"), &Json::Bool(number > 0));
         assert_eq!(json.get("lost_at"), &Json::Null);
         let Json::Object(groups) = json.get("next") else {

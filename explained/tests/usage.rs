@@ -42,6 +42,52 @@ fn bad_calls() {
         ),
         (&["state"], "state needs the number of a frame, and a list"),
         (
+            &["next"],
+            "next needs a list (a file, or - for standard input)",
+        ),
+        (
+            &["next", "six", &list],
+            "\"six\" is no number of a frame: next N LIST, N from 0",
+        ),
+        (
+            &["next", "-1", &list],
+            "there is no option \"-1\"",
+        ),
+        (
+            &["next", "99", &list],
+            "there is no frame 99: the list has 14 frames",
+        ),
+        (&["next", "6", &list, "more"], "\"more\" is too much"),
+        (&["explain", &list, "--table"], "--table goes with play alone"),
+        (
+            &["explain", &list, "--json"],
+            "--json goes with play, state and next alone",
+        ),
+        (
+            &["play", &list, "--json", "--table"],
+            "--table and --json do not go together",
+        ),
+        (
+            &["explain", &list, "--picture", "-"],
+            "--picture needs a file: the words go to standard output",
+        ),
+        (
+            &["picture", &list, "-", "--pages"],
+            "--pages needs a file: it writes several, and - is one",
+        ),
+        (
+            &["picture", &list, "x.png"],
+            "a picture is written as SVG, not as PNG: x.svg would do (a browser opens and prints it)",
+        ),
+        (
+            &["explain", &list, "--picture", "a/b.v2.PDF"],
+            "a picture is written as SVG, not as PDF: a/b.v2.svg would do (a browser opens and prints it)",
+        ),
+        (
+            &["page", &list, "x.svg"],
+            "a page is written as HTML, not as SVG: x.html would do (a browser opens and prints it)",
+        ),
+        (
             &["state", "6"],
             "state needs a list (a file, or - for standard input)",
         ),
@@ -166,11 +212,15 @@ fn a_full_disk() {
         &["explain"],
         &["state", "3"],
         &["next"],
+        &["next", "3"],
+        &["play", "--table"],
+        &["play", "--json"],
         &["survivors"],
         &["before"],
         &["encode"],
         &["decode"],
         &["--help"],
+        &["--version"],
     ] {
         let args = task.iter().copied().chain([list.as_str()]);
         let disk = File::options().write(true).open(full).expect("a full disk");
@@ -234,23 +284,25 @@ fn a_result_onto_its_own_list() {
 #[test]
 fn names_that_are_not_utf_8() {
     let folder = fresh("names");
-    let (list, out) = (
-        folder.join(OsStr::from_bytes(b"\xFFlist.in")),
-        folder.join(OsStr::from_bytes(b"\xFE.svg")),
-    );
-    let (list, out) = (list.as_os_str(), out.as_os_str());
+    let [list, svg, html] = [&b"\xFFlist.in"[..], b"\xFE.svg", b"\xFE.html"]
+        .map(|name| folder.join(OsStr::from_bytes(name)));
+    let [list, svg, html] = [&list, &svg, &html].map(|path| path.as_os_str());
     let word = OsStr::new;
     fs::copy(example(), list).expect("a copy");
     for args in [
-        &[word("explain"), word("--picture"), out, list][..],
+        &[word("explain"), word("--picture"), svg, list][..],
         &[word("play"), list],
-        &[word("picture"), list, out],
-        &[word("page"), list, out],
+        &[word("picture"), list, svg],
+        &[word("page"), list, html],
     ] {
-        let _ = fs::remove_file(out);
+        for out in [svg, html] {
+            let _ = fs::remove_file(out);
+        }
         let (status, _, error) = run(args);
         assert_eq!((status, error.as_str()), (0, ""), "{args:?}");
-        assert_eq!(Path::new(out).is_file(), args.contains(&out), "{args:?}");
+        for out in [svg, html] {
+            assert_eq!(Path::new(out).is_file(), args.contains(&out), "{args:?}");
+        }
     }
     fs::remove_file(list).expect("a list");
     let missing = format!(
@@ -301,8 +353,13 @@ fn a_list_too_long_to_draw() {
     ] {
         let (status, out, error) = fed(&[task, "-", "/dev/null"], list);
         assert_eq!((status, out.as_str()), (2, ""), "{task}");
+        // A random list may have its note first.
         let message = format!("satuphir: standard input: {message}");
-        assert!(error.starts_with(&message), "{error}");
+        let last = error.lines().last().map(|line| line.to_string() + "\n");
+        assert!(
+            last.is_some_and(|last| last.starts_with(&message)),
+            "{error}"
+        );
     }
 }
 

@@ -4,6 +4,7 @@
 #![allow(dead_code)]
 
 pub mod c;
+pub mod clone;
 pub mod documents;
 pub mod json;
 pub mod run;
