@@ -138,7 +138,7 @@ fn outcomes_of_examples_and_random_lists() {
     check(
         &text,
         &[
-            "is a hole.",
+            "is a hole",
             "has given no TN",
             "is not received; DATA ",
             "is not noted; NOTE ",
