@@ -19,6 +19,7 @@ else fail "$1: it stands in no crate's must-fail folder; name the crate: rival.s
 fi
 [ -d "$root/crates/$crate/src" ] || fail "there is no crate \"$crate\""
 command -v rt >/dev/null || fail "rt, the Rattle toolchain, is needed, and not found"
+[ -f "$root/target/stamp/$crate" ] || echo "rival.sh: $crate, and what it needs, is proved first ..." >&2
 
 work=$(mktemp -d); trap 'rm -rf "$work"' EXIT
 cp -r "$root/crates" "$root/crates.txt" "$work"

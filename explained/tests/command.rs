@@ -63,6 +63,7 @@ fn help_is_on_standard_output() {
 }
 
 #[test]
+#[cfg_attr(not(library), ignore = "needs the engine's library")]
 fn play_gives_the_lines() {
     for name in common::names() {
         let (status, out, _) = run(&["play", &file(&name)]);
@@ -71,6 +72,7 @@ fn play_gives_the_lines() {
 }
 
 #[test]
+#[cfg_attr(not(library), ignore = "needs the engine's library")]
 fn every_subcommand_takes_words_and_digits() {
     let digits = "0102020201010200020000\n1001000301\n110100010001\n110200010001\n110300010001\n1201\n1401\n1601\n";
     for args in [
@@ -121,6 +123,7 @@ fn every_subcommand_takes_words_and_digits() {
 }
 
 #[test]
+#[cfg_attr(not(library), ignore = "needs the engine's library")]
 fn explain_gives_words() {
     let (status, out, error) = run(&["explain", &file(NAME)]);
     assert_eq!((status, out), (0, explained(&list(NAME)).text));
@@ -128,6 +131,7 @@ fn explain_gives_words() {
 }
 
 #[test]
+#[cfg_attr(not(library), ignore = "needs the engine's library")]
 fn explain_gives_a_picture_too() {
     let out = fresh("explain-picture").join("out.svg");
     let out = out.to_str().expect("a name");
@@ -140,6 +144,7 @@ fn explain_gives_a_picture_too() {
 
 /// Options may stand after the list, and before the subcommand.
 #[test]
+#[cfg_attr(not(library), ignore = "needs the engine's library")]
 fn options_stand_anywhere() {
     let out = fresh("options").join("out.svg");
     let out = out.to_str().expect("a name");
@@ -155,6 +160,7 @@ fn options_stand_anywhere() {
 }
 
 #[test]
+#[cfg_attr(not(library), ignore = "needs the engine's library")]
 fn picture_and_its_pages() {
     let folder = fresh("pictures");
     let at = |name: &str| folder.join(name);
@@ -176,6 +182,7 @@ fn picture_and_its_pages() {
 }
 
 #[test]
+#[cfg_attr(not(library), ignore = "needs the engine's library")]
 fn state_shows_all_that_stands() {
     let (status, out, error) = fed(&["state", "6", "-"], WORDS.as_bytes());
     assert_eq!(status, 0);
@@ -210,6 +217,7 @@ fn state_shows_all_that_stands() {
 
 /// Holes, notes, windows and the TN to reach.
 #[test]
+#[cfg_attr(not(library), ignore = "needs the engine's library")]
 fn state_shows_what_is_rarer() {
     for (name, frame, want) in [
         ("08-holes", "17", "  * hole: TN 3\n"),
@@ -267,6 +275,7 @@ fn state_shows_what_is_rarer() {
 }
 
 #[test]
+#[cfg_attr(not(library), ignore = "needs the engine's library")]
 fn next_says_what_is_accepted_and_what_is_blocked() {
     let (status, out, error) = fed(&["next", "-"], WORDS.as_bytes());
     assert_eq!(status, 0);
@@ -302,8 +311,10 @@ fn next_says_what_is_accepted_and_what_is_blocked() {
 
 /// What `next` says of a frame is what the frame then gets: a number or FF, the letter of its rule, or J where it names none.
 #[test]
+#[cfg_attr(not(library), ignore = "needs the engine's library")]
 fn next_is_true() {
     use reference::generator;
+    let mut told = 0;
     for seed in 0..40 {
         let mut list = generator::list(seed, 120);
         if !list.ends_with(b"\n") {
@@ -327,11 +338,14 @@ fn next_is_true() {
                 _ => "00J".to_string(),
             };
             assert_eq!(answer, said, "seed {seed}: {line}");
+            told += 1;
         }
     }
+    assert!(told > 500, "{told}");
 }
 
 #[test]
+#[cfg_attr(not(library), ignore = "needs the engine's library")]
 fn page_is_written() {
     let out = fresh("page").join("out.html");
     let (status, said, error) = run(&["page", &file(NAME), out.to_str().expect("a name")]);
@@ -343,6 +357,7 @@ fn page_is_written() {
 
 /// Every run with `--quick` says that its lines are not the proved engine's.
 #[test]
+#[cfg_attr(not(library), ignore = "needs the engine's library")]
 fn quick_says_so() {
     let folder = fresh("quick");
     let (svg, html) = (folder.join("q.svg"), folder.join("q.html"));

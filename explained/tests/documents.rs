@@ -24,6 +24,7 @@ fn own_list() -> String {
 }
 
 #[test]
+#[cfg_attr(not(library), ignore = "needs the engine's library")]
 fn the_sitting_of_readme() {
     let list = own_list();
     let (status, lines, _) = fed(&["play", "-"], list.as_bytes());
@@ -106,6 +107,7 @@ fn the_table_of_readme() {
 
 /// The row of the crash without cover has each reason that `explain` gives.
 #[test]
+#[cfg_attr(not(library), ignore = "needs the engine's library")]
 fn the_reasons_in_readmes_table() {
     let rule_book = root().join("examples/00-the-rule-books-sitting.in");
     let (_, text, _) = run(&["explain".as_ref(), rule_book.as_os_str()]);

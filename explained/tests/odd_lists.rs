@@ -24,12 +24,14 @@ fn gives(list: &[u8], lines: &str, note: &str) {
 }
 
 #[test]
+#[cfg_attr(not(library), ignore = "needs the engine's library")]
 fn an_empty_list() {
     gives(b"", "", "the list is empty: no frame, no line");
 }
 
 /// A whole file of digits with CR LF has a note; one such line has none, nor has a list in words.
 #[test]
+#[cfg_attr(not(library), ignore = "needs the engine's library")]
 fn line_ends_of_another_system() {
     gives(
         b"1201\r\n1601\r\n",
@@ -46,6 +48,7 @@ fn line_ends_of_another_system() {
 
 /// Comments in a list of digits, on lines of their own or after a frame.
 #[test]
+#[cfg_attr(not(library), ignore = "needs the engine's library")]
 fn comments() {
     let but =
         "a list in digits has no comments, and such a line gets 01 (a list in words may have them)";
@@ -63,6 +66,7 @@ fn comments() {
 }
 
 #[test]
+#[cfg_attr(not(library), ignore = "needs the engine's library")]
 fn a_binary_file() {
     gives(
         b"\x7FELF\x02\x01\x01\n\0\0\n",
@@ -83,6 +87,7 @@ fn a_binary_file() {
 
 /// A job in words and the rest in digits, and the other way round: the lines of the frames.
 #[test]
+#[cfg_attr(not(library), ignore = "needs the engine's library")]
 fn words_and_digits_in_one_list() {
     let words = "job 2 machines\nchare 1 on 1\n";
     let digits = "1001000301\n110100010001\n110200010001\n110300010001\n1201\n";
@@ -96,6 +101,7 @@ fn words_and_digits_in_one_list() {
 
 /// In a list of digits a line that is neither is a frame that is refused, and a note says so.
 #[test]
+#[cfg_attr(not(library), ignore = "needs the engine's library")]
 fn neither_words_nor_digits() {
     let are = "neither digits nor words, and";
     gives(
@@ -159,6 +165,7 @@ fn a_hundred_mistakes() {
 
 /// What an editor may put in front of a file, or make of it.
 #[test]
+#[cfg_attr(not(library), ignore = "needs the engine's library")]
 fn byte_order_mark_and_utf_16() {
     gives(
         b"\xEF\xBB\xBF1201\n1601\n",
@@ -191,6 +198,7 @@ fn byte_order_mark_and_utf_16() {
 
 /// No subcommand stumbles over an empty list, a binary file, CR LF or comments: each says its word and goes on.
 #[test]
+#[cfg_attr(not(library), ignore = "needs the engine's library")]
 fn odd_lists_in_every_subcommand() {
     let folder = fresh("odd");
     for (name, bytes, word) in [

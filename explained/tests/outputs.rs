@@ -51,6 +51,7 @@ fn the_version() {
 }
 
 #[test]
+#[cfg_attr(not(library), ignore = "needs the engine's library")]
 fn a_table() {
     let want = "\
 frame  at line  words                    gives
@@ -90,6 +91,7 @@ fn list_of_words(name: &str) -> String {
 
 /// Every frame with its line, whatever the bytes of the list.
 #[test]
+#[cfg_attr(not(library), ignore = "needs the engine's library")]
 fn play_as_json() {
     let text = out(&["play", "--json", "-"], LIST.as_bytes());
     let json = Json::read(&text);
@@ -126,6 +128,7 @@ fn play_as_json() {
 
 /// The facts are those of the text, each with what the frame did to it.
 #[test]
+#[cfg_attr(not(library), ignore = "needs the engine's library")]
 fn state_as_json() {
     for number in 0..=5 {
         let number = number.to_string();
@@ -162,6 +165,7 @@ fn state_as_json() {
 
 /// Each frame that is told would get the line that is told.
 #[test]
+#[cfg_attr(not(library), ignore = "needs the engine's library")]
 fn next_as_json() {
     let mut tried = 0;
     for number in 0..=5 {
@@ -198,6 +202,7 @@ fn next_as_json() {
 
 /// After an earlier frame: what the list up to there gives, under another head.
 #[test]
+#[cfg_attr(not(library), ignore = "needs the engine's library")]
 fn next_after_an_earlier_frame() {
     let list = list("09-catching-up");
     let frames: Vec<&[u8]> = list.split_inclusive(|&b| b == b'\n').collect();
@@ -228,6 +233,7 @@ fn next_after_an_earlier_frame() {
 
 /// A frame is told with its line in the list, where that is not its number.
 #[test]
+#[cfg_attr(not(library), ignore = "needs the engine's library")]
 fn lines_of_the_list() {
     let text = out(&["explain", "-"], LIST.as_bytes());
     for head in [
@@ -248,6 +254,7 @@ fn lines_of_the_list() {
 
 /// `-` is standard output: the bytes that the file would have.
 #[test]
+#[cfg_attr(not(library), ignore = "needs the engine's library")]
 fn to_standard_output() {
     let folder = fresh("to-standard-output");
     let list = file("05-crash-with-cover");
@@ -267,4 +274,29 @@ fn to_standard_output() {
     let page = out(&["page", "-", "-"], LIST.as_bytes());
     assert!(page.starts_with("<!DOCTYPE html>"));
     assert!(!folder.join("-").exists() && !std::path::Path::new("-").exists());
+}
+
+/// A name that is too long for a picture's title is shortened, with a sign.
+#[test]
+fn a_long_name_in_a_title() {
+    let folder = fresh("long-name");
+    let name = format!("the-first-sitting-{}-of-spring", "x".repeat(150));
+    let list = folder.join(format!("{name}.in"));
+    fs::copy(file("05-crash-with-cover"), &list).expect("a copy");
+    let args = ["picture", &list.display().to_string(), "-", "--quick"].map(str::to_string);
+    let (status, picture, _) = run(&args);
+    assert_eq!(status, 0);
+    let title = picture
+        .lines()
+        .find(|line| line.contains("class=\"title\""));
+    let title = common::svg::said(title.expect("a title"));
+    assert!(title.starts_with("the-first-sitting-xxx"), "{title}");
+    assert!(
+        title.contains("x…x") && title.ends_with("(not the proved engine's lines)"),
+        "{title}"
+    );
+    // It fits, at two thirds of a letter's height for each.
+    let head = picture.lines().next().expect("a head");
+    let width = common::svg::number(head, "width");
+    assert!(title.chars().count() as f64 * 12.0 < width, "{title}");
 }

@@ -135,9 +135,11 @@ fn the_recipes_of_readme() {
     let (there, path) = unbuilt("recipes", answers);
     let selfcheck = there.join("reference/target/release/selfcheck");
     let vectors = there.join("reference/tests/vectors");
-    for folder in [selfcheck.parent().expect("a folder"), &vectors] {
+    let stamps = there.join("target/stamp");
+    for folder in [selfcheck.parent().expect("a folder"), &vectors, &stamps] {
         fs::create_dir_all(folder).expect("a folder");
     }
+    fs::write(stamps.join("window"), "").expect("a stamp");
     put_script(&selfcheck, "echo \"$@\"");
     for vector in ["01.in", "01.out"] {
         let from = root().join("reference/tests/vectors").join(vector);

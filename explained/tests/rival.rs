@@ -26,6 +26,7 @@ fn clone(name: &str, answer: &str) -> (PathBuf, String) {
         "crates/window/must-fail/other.edit",
         "crates/lists/must-fail/other.edit",
         "target/stamp/lists",
+        "target/stamp/window",
         "target/must-fail/window/old.res",
     ];
     for file in there.map(|file| root.join(file)) {
@@ -60,6 +61,11 @@ fn rival() {
             "must-fail window\n./crates/window/must-fail/rival.edit\nstamp\n"
         );
     }
+    // What is not proved yet is told, for it takes its time.
+    fs::remove_file(root.join("target/stamp/window")).expect("a stamp");
+    let said = "rival.sh: window, and what it needs, is proved first ...\n";
+    let want = (0, told.to_string(), said.to_string());
+    assert_eq!(tried(&root, &path, &["mine.edit", "window"]), want);
     // The clone itself is as it was.
     assert!(root.join("crates/window/must-fail/other.edit").is_file());
     assert!(!root.join("crates/window/must-fail/rival.edit").exists());

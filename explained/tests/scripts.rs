@@ -84,6 +84,7 @@ fn first_play(name: &str, rt: &str, proved: &[&str]) -> (PathBuf, (i32, String, 
 
 /// The first call that needs the engine says what it does and how far it is; one that fails says where to look.
 #[test]
+#[cfg_attr(not(library), ignore = "needs the engine's library")]
 fn satuphir_says_how_far_it_is() {
     let rt = proving(&[
         ("lists", "1 s"),
@@ -111,6 +112,7 @@ fn satuphir_says_how_far_it_is() {
 
 /// What is proved already takes no minutes, and is not counted.
 #[test]
+#[cfg_attr(not(library), ignore = "needs the engine's library")]
 fn satuphir_counts_what_is_left() {
     let unchanged = "unchanged since it was last proved";
     let rt = proving(&["lists", "protocol", "window", "satuphir"].map(|name| (name, unchanged)));
@@ -137,6 +139,7 @@ fn satuphir_counts_what_is_left() {
 
 /// Without the toolchain one line says what works and what does not.
 #[test]
+#[cfg_attr(not(library), ignore = "needs the engine's library")]
 fn without_the_toolchain() {
     let (root, _) = unbuilt("no-rt", "");
     let path = without_rt(&root);
@@ -231,6 +234,7 @@ fn sitting_looks_at_its_list_first() {
 
 /// The table is made of a program's lines, and is the one in the document. The program is built where it is not there.
 #[test]
+#[cfg_attr(not(library), ignore = "needs the engine's library")]
 fn the_table_of_crash_sets() {
     let built =
         "[ \"$*\" = 'check survivors' ] && mkdir -p target/bin && cp bin/survivors target/bin";
@@ -273,6 +277,7 @@ fn redirected(words: &str) -> (i32, String, String) {
 
 /// What the bare program cannot say: a closed input or a directory is no empty list, on a full disk or a closed output no line is there.
 #[test]
+#[cfg_attr(not(library), ignore = "needs the engine's library")]
 fn play_notices_what_cannot_be_read_or_written() {
     let list = "15-buddy-before.in";
     for (words, error) in [

@@ -132,6 +132,7 @@ fn the_table() {
 
 /// The call, as it is typed, gives what is shown below it.
 #[test]
+#[cfg_attr(not(library), ignore = "needs the engine's library")]
 fn the_call() {
     let text = document(DOCUMENT);
     let ([call], [shown]) = (&blocks(&text, "sh")[..], &blocks(&text, "text")[..]) else {

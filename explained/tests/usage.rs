@@ -16,6 +16,7 @@ fn example() -> String {
 }
 
 #[test]
+#[cfg_attr(not(library), ignore = "needs the engine's library")]
 fn bad_calls() {
     let list = example();
     for (args, message) in [
@@ -149,6 +150,7 @@ fn bad_calls() {
 
 /// A processing is called by two decimal numbers, and nothing else.
 #[test]
+#[cfg_attr(not(library), ignore = "needs the engine's library")]
 fn names_of_processings() {
     let list = example();
     for name in [
@@ -204,6 +206,7 @@ fn an_input_that_cannot_be_read() {
 
 /// A disk that is full is noticed, on standard output and in a file.
 #[test]
+#[cfg_attr(not(library), ignore = "needs the engine's library")]
 fn a_full_disk() {
     let (list, full) = (example(), "/dev/full");
     let word = "No space left on device (os error 28)\n";
@@ -282,6 +285,7 @@ fn a_result_onto_its_own_list() {
 }
 
 #[test]
+#[cfg_attr(not(library), ignore = "needs the engine's library")]
 fn names_that_are_not_utf_8() {
     let folder = fresh("names");
     let [list, svg, html] = [&b"\xFFlist.in"[..], b"\xFE.svg", b"\xFE.html"]
@@ -335,6 +339,7 @@ fn a_mistake_in_words() {
 }
 
 #[test]
+#[cfg_attr(not(library), ignore = "needs the engine's library")]
 fn a_list_too_long_to_draw() {
     let list = reference::generator::list(107, 5000);
     let longer = b"1201\n".repeat(5001);
@@ -365,6 +370,7 @@ fn a_list_too_long_to_draw() {
 
 /// A reader that has seen enough is no error.
 #[test]
+#[cfg_attr(not(library), ignore = "needs the engine's library")]
 fn a_closed_pipe() {
     let list = "1201\n".repeat(200_000);
     let folder = fresh("pipe");

@@ -60,5 +60,5 @@ pub mod reuse;
 pub mod run;
 
 // The proved engine, to compare with.
-#[cfg(feature = "engine")]
+#[cfg(library)]
 pub mod engine;

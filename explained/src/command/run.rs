@@ -62,14 +62,14 @@ pub fn run(asked: &Asked) -> Result<u8, Failure> {
         Task::Version => return print(format!("satuphir {VERSION}\n").as_bytes()).map(|()| DONE),
         _ => {}
     }
+    look_at_out(asked)?;
+    let input = files::read(&asked.list)?;
+    let list = files::list(&asked.list, &input)?;
     if asked.needs_engine() && !engine::LINKED {
         return usage(
             "built without the proved engine: tools/satuphir builds it, --quick does without",
         );
     }
-    look_at_out(asked)?;
-    let input = files::read(&asked.list)?;
-    let list = files::list(&asked.list, &input)?;
     let digits = &list.digits;
     match asked.task {
         Task::Survivors => say(&survivors::notes(&input, digits)),
