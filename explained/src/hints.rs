@@ -7,16 +7,29 @@ use reference::frame::parse;
 
 /// What to say about a list besides its lines.
 pub fn hints(input: &[u8]) -> Vec<String> {
+    let (mut hints, others) = looked(input);
+    hints.extend(neither(&cut(input), &others));
+    hints
+}
+
+/// What is wrong with all of it; single lines are not told.
+pub fn faults(input: &[u8]) -> Vec<String> {
+    looked(input).0
+}
+
+/// What is wrong with all of it, and the places of those lines besides that are neither digits nor words.
+fn looked(input: &[u8]) -> (Vec<String>, Vec<usize>) {
+    let alone = |hint: String| (vec![hint], Vec::new());
     if input.is_empty() {
-        return vec!["the list is empty: no frame, no line".to_string()];
+        return alone("the list is empty: no frame, no line".to_string());
     }
     if form(input) == Form::Words {
-        return Vec::new();
+        return (Vec::new(), Vec::new());
     }
     if let Some(how) = utf_16(input) {
-        return vec![format!(
+        return alone(format!(
             "the list is UTF-16 ({how}), which makes its lines 01; save it as UTF-8, or `iconv -f UTF-16 -t UTF-8` turns it into that"
-        )];
+        ));
     }
     let lines = cut(input);
     let number = |of: fn(&[u8]) -> bool| lines.iter().filter(|line| of(line)).count();
@@ -44,16 +57,13 @@ pub fn hints(input: &[u8]) -> Vec<String> {
         ));
     }
     if hints.is_empty() && number(|line| parse(line).is_some()) == 0 {
-        return vec![no_list(input)];
+        return alone(no_list(input));
     }
     let told = |at: usize, line: &[u8]| {
         (mark && at == 0) || (many_returns && self::returns(line)) || has_comment(line)
     };
-    let others: Vec<usize> = (0..lines.len())
-        .filter(|&at| !is_digits(lines[at]) && !told(at, lines[at]))
-        .collect();
-    hints.extend(neither(&lines, &others));
-    hints
+    let others = (0..lines.len()).filter(|&at| !is_digits(lines[at]) && !told(at, lines[at]));
+    (hints, others.collect())
 }
 
 fn returns(line: &[u8]) -> bool {

@@ -1,4 +1,4 @@
-//! The same output in other forms: as a table, as JSON, on standard output, after an earlier frame; where a frame stands in the list.
+//! The same output in other forms: as a table, as JSON, on standard output; where a frame stands in the list.
 
 mod common;
 
@@ -122,6 +122,9 @@ fn play_as_json() {
         let again = digits(words.join("\n").as_bytes()).expect("a list");
         assert_eq!(answer_all(&again), answer_all(&list), "seed {seed}");
     }
+    let quick = fed(&["play", "--json", "-", "--quick"], LIST.as_bytes()).1;
+    let engine = Json::read(&quick).get("engine").text().to_string();
+    assert_eq!(engine, "second implementation");
     let empty = Json::read(&fed(&["play", "--json", "-"], b"").1);
     assert_eq!(empty.get("frames").items(), []);
 }
@@ -198,37 +201,6 @@ fn next_as_json() {
     assert!(tried > 30, "{tried}");
     let (_, json, _) = run(&["next", "--json", &file("00-the-rule-books-sitting")]);
     assert_eq!(Json::read(&json).get("lost_at").number(), 13);
-}
-
-/// After an earlier frame: what the list up to there gives, under another head.
-#[test]
-#[cfg_attr(not(library), ignore = "needs the engine's library")]
-fn next_after_an_earlier_frame() {
-    let list = list("09-catching-up");
-    let frames: Vec<&[u8]> = list.split_inclusive(|&b| b == b'\n').collect();
-    for number in 1..=frames.len() {
-        let whole = out(&["next", &number.to_string(), "-"], &list);
-        let cut = out(&["next", "-"], &frames[..number].concat());
-        let (head, rest) = whole.split_once('\n').expect("a head");
-        let start = format!("After frame {number} of {}:  ", frames.len());
-        assert!(head.starts_with(&start), "{head}");
-        let (_, want) = cut.split_once('\n').expect("a head");
-        assert_eq!(rest, want, "{number}");
-    }
-    let text = out(&["next", "0", "-"], &list);
-    assert!(
-        text.starts_with("Before the first frame.\nNo job is set: "),
-        "{text}"
-    );
-    let text = out(&["next", "3", "-"], LIST.as_bytes());
-    let head = "After frame 3 of 5 (line 7):  110100010001  deliver ASK 0>1 #1  ->  00C\n";
-    assert!(text.starts_with(head), "{text}");
-    // A run that is lost later is not lost yet.
-    let rule_book = file("00-the-rule-books-sitting");
-    let (_, text, _) = run(&["next", "12", &rule_book]);
-    assert!(text.contains("FF: The run would be lost"), "{text}");
-    let (_, text, _) = run(&["next", "14", &rule_book]);
-    assert!(text.contains("The run was lost at frame 13"), "{text}");
 }
 
 /// A frame is told with its line in the list, where that is not its number.
