@@ -32,6 +32,13 @@ fn looked(input: &[u8]) -> (Vec<String>, Vec<usize>) {
         ));
     }
     let lines = cut(input);
+    let is_list = lines.iter().any(|line| parse(line).is_some());
+    if !is_list && !is_text(input) {
+        return alone(
+            "no line of this is a frame, and it holds bytes that are no text: is it a binary file?"
+                .to_string(),
+        );
+    }
     let number = |of: fn(&[u8]) -> bool| lines.iter().filter(|line| of(line)).count();
     let mut hints = Vec::new();
     let mark = input.starts_with(BYTE_ORDER_MARK);
@@ -56,8 +63,10 @@ fn looked(input: &[u8]) -> (Vec<String>, Vec<usize>) {
             count(comments, "line")
         ));
     }
-    if hints.is_empty() && number(|line| parse(line).is_some()) == 0 {
-        return alone(no_list(input));
+    if hints.is_empty() && !is_list {
+        return alone(
+            "no line of this is a frame, in digits or in words: is it a list?".to_string(),
+        );
     }
     let told = |at: usize, line: &[u8]| {
         (mark && at == 0) || (many_returns && self::returns(line)) || has_comment(line)
@@ -94,17 +103,9 @@ fn utf_16(input: &[u8]) -> Option<&'static str> {
     (all > 0 && high.max(low) * 10 >= all * 9).then_some("every other byte is 00")
 }
 
-/// No line of it is a frame.
-fn no_list(input: &[u8]) -> String {
-    let is_text = |&b: &u8| !matches!(b, 0..=8 | 14..=31 | 127);
-    let text = std::str::from_utf8(input).is_ok() && input.iter().all(is_text);
-    match text {
-        true => "no line of this is a frame, in digits or in words: is it a list?",
-        false => {
-            "no line of this is a frame, and it holds bytes that are no text: is it a binary file?"
-        }
-    }
-    .to_string()
+fn is_text(input: &[u8]) -> bool {
+    let is_control = |b: &u8| matches!(b, 0..=8 | 14..=31 | 127);
+    std::str::from_utf8(input).is_ok() && !input.iter().any(|b| is_control(b))
 }
 
 /// How many lines are told by their numbers.

@@ -195,6 +195,8 @@ fn a_mistake_is_named_with_line_and_column() {
         ("recover 1", 3, 1, "expected one of job, chare, inject, deliver, work, checkpoint, crash, restart, show, withdraw, raw, or a frame in digits, found \"recover\""),
         ("12G1", 3, 1, "expected one of job, chare, inject, deliver, work, checkpoint, crash, restart, show, withdraw, raw, or a frame in digits, found \"12G1\""),
         ("> 1", 3, 1, "expected one of job, chare, inject, deliver, work, checkpoint, crash, restart, show, withdraw, raw, or a frame in digits, found \">\""),
+        ("work \u{1B}[2J", 3, 6, "expected a chare, from 0 to 255, found \"\\u{1b}[2J\""),
+        ("work 1234567890123456789012345678901234567890123", 3, 6, "expected a chare, from 0 to 255, found \"12345678901234567890…5678901234567890123\""),
         ("12 01", 3, 4, "expected the end of the line or a comment, found \"01\""),
         ("deliver GRNAT 0>1 #1", 3, 9, "expected ASK, GRANT, DATA, NOTE or ACK, or a kind's number, found \"GRNAT\"; did you mean \"GRANT\"?"),
         ("job 2 machines, budies 2 1", 3, 17, "expected the end of the line or a comment, found \"budies\"; did you mean \"buddies\"?"),

@@ -74,6 +74,11 @@ fn a_binary_file() {
         "no line of this is a frame, and it holds bytes that are no text: is it a binary file?",
     );
     gives(
+        b"\x89PNG\r\n# no comment\0\n",
+        "01\n01\n",
+        "no line of this is a frame, and it holds bytes that are no text: is it a binary file?",
+    );
+    gives(
         b"\xE9tudiant\n",
         "01\n",
         "no line of this is a frame, and it holds bytes that are no text: is it a binary file?",

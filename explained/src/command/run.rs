@@ -39,7 +39,7 @@ fn look_at_out(asked: &Asked) -> Result<(), Failure> {
     let Some(out) = &asked.out else {
         return Ok(());
     };
-    let is_picture = asked.task != Task::Page;
+    let is_picture = matches!(asked.task, Task::Picture | Task::Explain);
     if files::is_standard(out) {
         return match asked.task {
             Task::Explain => usage("--picture needs a file: the words go to standard output"),

@@ -2,9 +2,13 @@
 
 use super::near::nearest;
 use super::Error;
+use crate::lines::shortened;
 
 /// Some editors put it in front of a file.
 pub const BYTE_ORDER_MARK: &[u8] = b"\xEF\xBB\xBF";
+
+/// So much of a piece is shown in an error.
+const SHOWN: usize = 40;
 
 struct Piece<'a> {
     column: usize,
@@ -92,7 +96,7 @@ impl<'a> Scan<'a> {
     fn found(&self, piece: Option<&Piece>) -> (usize, String) {
         match piece {
             None => (self.end, "the line ends".to_string()),
-            Some(piece) => (piece.column, format!("found \"{}\"", piece.text)),
+            Some(piece) => (piece.column, format!("found \"{}\"", printable(piece.text))),
         }
     }
 
@@ -201,6 +205,18 @@ impl<'a> Scan<'a> {
             false => Err(self.expected_one_of("the end of the line or a comment", known)),
         }
     }
+}
+
+/// A piece for one line of print, whatever it holds.
+fn printable(text: &str) -> String {
+    let mut shown = String::new();
+    for letter in shortened(text, SHOWN).chars() {
+        match letter.is_control() {
+            true => shown.extend(letter.escape_default()),
+            false => shown.push(letter),
+        }
+    }
+    shown
 }
 
 fn number(text: &str) -> Option<u32> {
