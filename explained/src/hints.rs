@@ -105,7 +105,7 @@ fn utf_16(input: &[u8]) -> Option<&'static str> {
 
 fn is_text(input: &[u8]) -> bool {
     let is_control = |b: &u8| matches!(b, 0..=8 | 14..=31 | 127);
-    std::str::from_utf8(input).is_ok() && !input.iter().any(|b| is_control(b))
+    std::str::from_utf8(input).is_ok() && !input.iter().any(is_control)
 }
 
 /// How many lines are told by their numbers.
