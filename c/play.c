@@ -29,8 +29,8 @@ int main(void) {
   for (size_t at = 0; at < len; at++) lines += input[at] == '\n';
   unsigned char *out = malloc(lines * SATUPHIR_LINE_SPACE);
   if (out == NULL) return fail("play");
-  size_t written = satuphir_transcript(input, len, out, lines * SATUPHIR_LINE_SPACE);
-  if (written == SATUPHIR_NO_ROOM) {
+  size_t written;
+  if (satuphir_transcript(input, len, out, lines * SATUPHIR_LINE_SPACE, &written) == SATUPHIR_NO_ROOM) {
     fputs("play: no room, which cannot be\n", stderr);
     return 2;
   }

@@ -1,5 +1,5 @@
 /* The proved engine for callers in C (x86-64). `rt staticlib satuphir` proves it and writes target/staticlib/libsatuphir.a, to be
-   linked; it needs nothing else and keeps nothing between calls. c/play.c, c/survivors.c and c/precedes.c are examples. */
+   linked; it needs nothing else and keeps nothing between calls. c/play.c, c/pieces.c, c/survivors.c and c/precedes.c are examples. */
 #ifndef SATUPHIR_H
 #define SATUPHIR_H
 
@@ -14,13 +14,38 @@ extern "C" {
    newlines, unless it ends in one. */
 #define SATUPHIR_LINE_SPACE 16
 
-/* The answer where `out` has no room for all lines. */
+/* The answer where room ran out. */
 #define SATUPHIR_NO_ROOM SIZE_MAX
 
-/* Plays a whole list, in hexadecimal digits, one frame a line, and writes its lines to `out`. Gives the number of bytes written, or
-   SATUPHIR_NO_ROOM; `out` then begins with the lines for which there was room. The two places must not overlap, and neither pointer
-   may be null, not even for a length of 0. */
-size_t satuphir_transcript(const unsigned char *input, size_t input_len, unsigned char *out, size_t out_len);
+/* Plays a whole list, in hexadecimal digits, one frame a line, and writes its lines to `out`. Gives the number of bytes written. As soon
+   as fewer than SATUPHIR_LINE_SPACE bytes of `out` are left ahead of a byte of the input it stops and gives SATUPHIR_NO_ROOM, even if the
+   lines to come were short enough. In every case `*written` is the number of bytes written: whole lines, those of the frames that were
+   played. Nothing that is passed may overlap, and no pointer may be null, not even for a length of 0. */
+size_t satuphir_transcript(const unsigned char *input, size_t input_len, unsigned char *out, size_t out_len, size_t *written);
+
+/* The same in pieces, for callers that keep a sitting: a reader holds its state, the first bytes of the line under way and how many they
+   are. Of zeros it has read nothing. */
+#define SATUPHIR_STATE_WORDS 3287
+#define SATUPHIR_LINE_BYTES 2047
+typedef struct {
+  uint64_t state[SATUPHIR_STATE_WORDS];
+  unsigned char line[SATUPHIR_LINE_BYTES];
+  size_t len;
+} satuphir_reader;
+
+/* SATUPHIR_STATE_WORDS as the linked library has it; another number: it was built with another header. */
+size_t satuphir_state_words(void);
+
+/* Feeds a reader (its `state`, `line` and `&len`) a piece of an input of any size, and writes the lines of the frames that end in it to
+   `out`, `*written` bytes. Gives how many bytes of the piece it took: fewer than all where fewer than SATUPHIR_LINE_SPACE bytes of `out`
+   were left ahead of the next one; the rest is then fed in another call. */
+size_t satuphir_feed(uint64_t *state, unsigned char *line, size_t *len, const unsigned char *input, size_t input_len, unsigned char *out,
+                     size_t out_len, size_t *written);
+
+/* At the end of the input: what follows the last newline is a frame if it is not empty. Gives the number of bytes written to `out`, 0 or a
+   line, and the reader may be fed on, with a new line. Where a line is under way and out_len is below SATUPHIR_LINE_SPACE, nothing is
+   written, the answer is SATUPHIR_NO_ROOM, and the reader is as it was. */
+size_t satuphir_finish(uint64_t *state, unsigned char *line, size_t *len, unsigned char *out, size_t out_len);
 
 /* Room enough for the lines of satuphir_survivors, whatever the job. */
 #define SATUPHIR_SURVIVORS_SPACE 48

@@ -5,5 +5,6 @@ proved=$root/target/bin/sitting
 [ -x "$proved" ] || (cd "$root" && rt check sitting >/dev/null)
 cargo build --release --offline --quiet --manifest-path "$root/reference/Cargo.toml"
 second=$root/reference/target/release/sitting
-lists=$root/reference/target/release/lists
+"$root/tools/lists" --help >/dev/null # builds it
+lists=$root/explained/target/quick/release/lists
 work=$(mktemp -d); trap 'rm -rf "$work"' EXIT

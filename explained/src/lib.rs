@@ -9,6 +9,7 @@ pub mod notation;
 pub mod play;
 pub mod report;
 pub mod survivors;
+pub mod variants;
 
 // What a frame did, from the state before and after it.
 pub mod names;

@@ -330,39 +330,3 @@ fn the_edits_of_readme() {
         assert!(readme.contains(&want), "README does not say: {want}");
     }
 }
-
-/// What the documents name is there.
-#[test]
-fn names_of_files() {
-    for (name, from) in [
-        ("README.md", "."),
-        ("docs/RULES.md", "."),
-        ("docs/SURVIVORS.md", "."),
-        ("docs/BEFORE.md", "."),
-        ("explained/README.md", "explained"),
-        ("examples/README.md", "examples"),
-    ] {
-        let text = document(name);
-        for word in text.split('`').skip(1).step_by(2) {
-            let path = word.split_whitespace().next().unwrap_or_default();
-            let known = [
-                "crates/",
-                "docs/",
-                "tools/",
-                "examples/",
-                "explained/",
-                "reference/",
-                "c/",
-                "src/",
-                "../",
-            ];
-            let shown = path.contains(['*', '<']) || path.contains("NAME");
-            if known.iter().any(|start| path.starts_with(start))
-                && !shown
-                && !path.contains("target")
-            {
-                assert!(root().join(from).join(path).exists(), "{name}: {path}");
-            }
-        }
-    }
-}

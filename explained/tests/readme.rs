@@ -4,11 +4,9 @@ mod common;
 
 use common::clone::{put_script, run_there, tools, unbuilt};
 use common::documents::{blocks, document, root};
-use common::run::{fresh, result, run};
 use std::collections::BTreeSet;
 use std::fs;
 use std::os::unix::fs::PermissionsExt;
-use std::process::Command;
 
 /// All that README has as code, a line each.
 fn code() -> Vec<String> {
@@ -170,22 +168,4 @@ fn the_recipes_of_readme() {
     };
     let file = document(&format!("crates/window/{}", field("file:")));
     assert_eq!(file.matches(field("old:")).count(), 1);
-}
-
-/// The random list of README, made and read as typed there.
-#[test]
-fn the_random_list_of_readme() {
-    let folder = fresh("random-list");
-    let code = code();
-    let call = code.iter().find(|line| line.starts_with("tools/lists --"));
-    let call = call.expect("a call");
-    let script = format!("{}/{call}", root().display());
-    let mut bash = Command::new("bash");
-    let made = bash.args(["-c", &script]).current_dir(&folder).output();
-    let (status, out, error) = result(made.expect("a run"));
-    assert_eq!((status, out.as_str()), (0, ""), "{error}");
-    let list = folder.join(call.rsplit(' ').next().expect("a file"));
-    let (status, words, error) = run(&["decode".as_ref(), list.as_os_str()]);
-    assert_eq!((status, error.as_str()), (0, ""));
-    assert!(words.starts_with("job 3 machines"), "{words}");
 }

@@ -171,12 +171,12 @@ fn without_the_toolchain() {
 #[test]
 fn lists_says_that_it_builds() {
     let (root, path) = unbuilt("lists", CALLED);
-    let program = root.join("reference/target/release/lists");
-    fs::create_dir_all(program.parent().expect("a folder")).expect("a folder");
+    let program = root.join("explained/target/quick/release/lists");
     let made = format!(
-        "[ \"$*\" = 'build --release --offline --quiet --manifest-path {}/reference/Cargo.toml --bin lists' ] || exit 3\n\
+        "[ \"$*\" = 'build --release --offline --quiet --manifest-path {root}/explained/Cargo.toml \
+         --no-default-features --target-dir {root}/explained/target/quick --bin lists' ] || exit 3\n\
          printf '#!/bin/sh\\necho \"$@\"\\n' >'{program}'; chmod +x '{program}'",
-        root.display(),
+        root = root.display(),
         program = program.display()
     );
     put_script(&root.join("bin/cargo"), &made);

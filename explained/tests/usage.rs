@@ -76,6 +76,10 @@ fn bad_calls() {
             "--pages needs a file: it writes several, and - is one",
         ),
         (
+            &["variants", &list, "2", "--out", "-"],
+            "--out needs a file or a folder: without it lists are printed",
+        ),
+        (
             &["picture", &list, "x.png"],
             "a picture is written as SVG, not as PNG: x.svg would do (a browser opens and prints it)",
         ),

@@ -3,10 +3,36 @@
 use crate::precedes::{Answer, Name, Processing};
 
 extern "C" {
-    /// Writes the whole output for a whole input and returns its length, or the largest number where there is no room for it.
+    /// Writes the output for a whole input and returns its length, or the largest number where room ran out. `written` gets the number of
+    /// bytes written in either case.
     fn satuphir_transcript(
         input: *const u8,
         input_len: usize,
+        out: *mut u8,
+        out_len: usize,
+        written: *mut usize,
+    ) -> usize;
+
+    /// How many words a state has.
+    fn satuphir_state_words() -> usize;
+
+    /// Feeds a reader a piece; returns how many bytes it took.
+    fn satuphir_feed(
+        state: *mut [u64; STATE],
+        line: *mut [u8; LINE],
+        len: *mut usize,
+        input: *const u8,
+        input_len: usize,
+        out: *mut u8,
+        out_len: usize,
+        written: *mut usize,
+    ) -> usize;
+
+    /// The end of the input; returns how many bytes were written, or the largest number where there is no room for a line.
+    fn satuphir_finish(
+        state: *mut [u64; STATE],
+        line: *mut [u8; LINE],
+        len: *mut usize,
         out: *mut u8,
         out_len: usize,
     ) -> usize;
@@ -35,21 +61,103 @@ extern "C" {
 /// No line is longer than this, newline included: a show has 14 digits and a letter.
 pub const LINE_SPACE: usize = 16;
 
-/// The engine's output for a whole input, written into `out`; its length, if there is room.
-pub fn write_transcript(input: &[u8], out: &mut [u8]) -> Option<usize> {
+/// The words of a state, and the bytes of a line that are kept.
+pub const STATE: usize = 3287;
+pub const LINE: usize = 2047;
+
+/// How many bytes were written, and whether that is all.
+#[derive(Debug, PartialEq, Eq)]
+pub struct Written {
+    pub bytes: usize,
+    pub all: bool,
+}
+
+/// The engine's output for a whole input, written into `out` as far as there is room.
+pub fn write_transcript(input: &[u8], out: &mut [u8]) -> Written {
+    let mut bytes = 0;
     // Sound: both places are given with their own lengths, and the engine keeps neither.
-    let len =
-        unsafe { satuphir_transcript(input.as_ptr(), input.len(), out.as_mut_ptr(), out.len()) };
-    (len != usize::MAX).then_some(len)
+    let code = unsafe {
+        satuphir_transcript(
+            input.as_ptr(),
+            input.len(),
+            out.as_mut_ptr(),
+            out.len(),
+            &mut bytes,
+        )
+    };
+    let all = code != usize::MAX;
+    assert!(!all || code == bytes, "{code} is not {bytes}");
+    Written { bytes, all }
 }
 
 /// The engine's output for a whole input.
 pub fn transcript(input: &[u8]) -> Vec<u8> {
     let lines = input.iter().filter(|&&b| b == b'\n').count() + 1;
     let mut out = vec![0; LINE_SPACE * lines];
-    let len = write_transcript(input, &mut out).expect("16 bytes a line are enough");
-    out.truncate(len);
+    let written = write_transcript(input, &mut out);
+    assert!(written.all, "16 bytes a line are enough");
+    out.truncate(written.bytes);
     out
+}
+
+/// A sitting that the engine plays piece by piece.
+pub struct Reader {
+    state: Box<[u64; STATE]>,
+    line: Box<[u8; LINE]>,
+    len: usize,
+}
+
+impl Reader {
+    pub fn new() -> Reader {
+        // Sound: it only gives a number.
+        let words = unsafe { satuphir_state_words() };
+        assert_eq!(words, STATE, "the library has another state");
+        Reader {
+            state: Box::new([0; STATE]),
+            line: Box::new([0; LINE]),
+            len: 0,
+        }
+    }
+
+    /// Takes a piece, or its beginning where room runs out: how many bytes, and what was written into `out`.
+    pub fn feed(&mut self, input: &[u8], out: &mut [u8]) -> (usize, usize) {
+        let mut written = 0;
+        // Sound: the reader's places have the lengths that the engine asks for, the others are given with theirs.
+        let taken = unsafe {
+            satuphir_feed(
+                &mut *self.state,
+                &mut *self.line,
+                &mut self.len,
+                input.as_ptr(),
+                input.len(),
+                out.as_mut_ptr(),
+                out.len(),
+                &mut written,
+            )
+        };
+        (taken, written)
+    }
+
+    /// The end of the input: how many bytes were written, if there was room.
+    pub fn finish(&mut self, out: &mut [u8]) -> Option<usize> {
+        // Sound: as above.
+        let written = unsafe {
+            satuphir_finish(
+                &mut *self.state,
+                &mut *self.line,
+                &mut self.len,
+                out.as_mut_ptr(),
+                out.len(),
+            )
+        };
+        (written != usize::MAX).then_some(written)
+    }
+}
+
+impl Default for Reader {
+    fn default() -> Reader {
+        Reader::new()
+    }
 }
 
 /// Room for every answer to a count of crash sets: six lines of at most 8 bytes.

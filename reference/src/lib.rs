@@ -35,7 +35,9 @@ pub mod long;
 pub mod mistake;
 pub mod mood;
 pub mod outlook;
+pub mod promise;
 pub mod rng;
+pub mod values;
 
 // Layouts and lines whose crash sets to count.
 pub mod buddies;

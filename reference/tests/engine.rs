@@ -1,6 +1,6 @@
 //! The proved engine, linked as a library, gives the second implementation's bytes.
 
-use reference::engine::{transcript, write_transcript, LINE_SPACE};
+use reference::engine::{transcript, write_transcript, Written, LINE_SPACE};
 use reference::generator::{list, whole, Generator};
 use reference::long::{limit_list, Limit};
 use reference::reader::answer_all;
@@ -89,9 +89,24 @@ fn a_buffer_that_is_too_small() {
     let whole = answer_all(&input);
     for len in [whole.len() / 2, whole.len() - 1, LINE_SPACE, 1, 0] {
         let mut out = vec![b'.'; len];
-        assert_eq!(write_transcript(&input, &mut out), None);
+        let written = write_transcript(&input, &mut out);
+        assert!(!written.all, "{len}");
+        assert!(out[..written.bytes] == whole[..written.bytes], "{len}");
         assert!(holds_what_fits(&out, &whole), "{len}");
     }
+}
+
+/// Room runs out as soon as the longest line would not fit, whatever the line to come.
+#[test]
+fn room_for_the_longest_line() {
+    for len in 0..LINE_SPACE {
+        let mut out = vec![b'.'; len];
+        let (bytes, all) = (0, false);
+        assert_eq!(write_transcript(b"12\n", &mut out), Written { bytes, all });
+    }
+    let (bytes, all) = (3, true);
+    let mut out = [b'.'; LINE_SPACE];
+    assert_eq!(write_transcript(b"12\n", &mut out), Written { bytes, all });
 }
 
 /// That test can fail: on nothing written, on half of it, and on a line that is cut.

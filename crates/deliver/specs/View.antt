@@ -4,7 +4,8 @@ use Rattle.lists.specs.Questions.{Question, Result, ok, refuse, put-all}
 use Rattle.arrays.specs.Front.{push}
 use Rattle.protocol.specs.{declared.Content.Content, declared.Rule.the-variants.Other, declared.Packet.Packet, Parts.{Memory, wire-room}}
 use Rattle.words.specs.{Rows.without, Becomes.Becomes}
-use Rattle.packets.specs.Words.{fitted, packets}
+use Rattle.item.specs.{declared.Item.Item, Item.items}
+use Rattle.packets.specs.{Words.{fitted, packets}, Packing.packed}
 use Rattle.memory.specs.View.{memory-view}
 use Rattle.deliver.specs.{declared.arrive.Reply.Reply, declared.arrive.Reply.the-variants.{Nothing, Send}, declared.arrive.Done.Done, declared.arrive.Arrived.Arrived}
 use Rattle.deliver.specs.Effect.{Effect, effect, effect-questions}
@@ -26,11 +27,17 @@ unfoldable pub answered : List Packet → Packet → Reply → List Packet
 answered l p Nothing = l
 answered l p (Send c) = push wire-room l (fitted (record { sender = p .sender; receiver = p .receiver; sn = p .sn; content = c }))
 
+-- bit by bit
+unfoldable pub answered-words : List Item → Packet → Reply → List Item
+answered-words l p Nothing = l
+answered-words l p (Send c) = push wire-room l (packed (record { sender = p .sender; receiver = p .receiver; sn = p .sn; content = c }))
+
 -- The packet at a place leaves the wire, and then the answer goes on it.
 pub record Answering (before after : List ℕ) (at : ℕ) (p : Packet) (r : Reply) : Type 0 where
   pub left : List ℕ
   pub off : Becomes packets before left (without at (packets before))
   pub on : Becomes packets left after (answered (without at (packets before)) p r)
+  pub words : items after ≡ answered-words (without at (items before)) p r
 
 -- refused by a number; 0 is no refusal
 unfoldable pub by-number : {S : Type 0} → ℕ → S → Result S

@@ -2,14 +2,18 @@
 pub mod arrive;
 
 ghost use mathlib.Core.Path.{_≡_};
+ghost use mathlib.Core.Bool.{cond};
 ghost use Prim.Native.Nat.{_<_, _≤_};
 ghost use lib.ListN.{length};
 ghost use Rattle.lists.specs.Questions.{put-all, first-no};
-ghost use Rattle.protocol.specs.Packets.{note-of};
+ghost use Rattle.arrays.specs.Front.{push};
+ghost use Rattle.protocol.specs.Parts.{note-room};
+ghost use Rattle.protocol.specs.Packets.{has-note, note-of};
 ghost use Rattle.protocol.specs.Questions.{deliver-questions, on-wire};
 ghost use Rattle.protocol.specs.Step.{judged};
 ghost use Rattle.head.specs.Head.{HEAD, job-of, lost-of, status-of};
-ghost use Rattle.notelist.specs.Notes.{notes};
+ghost use Rattle.item.specs.Item.{items};
+ghost use Rattle.notelist.specs.Notes.{notes, packed};
 ghost use Rattle.packets.specs.Fits.{Fits};
 ghost use Rattle.store.specs.Places.{NOTELIST, PACKETS, STORE};
 ghost use Rattle.store.specs.View.{view, Framed};
@@ -70,7 +74,8 @@ fn judge(s: &[u64], kind: u8, sender: u8, receiver: u8, sn: u16) -> u8
 fn note(ws: &mut [u64], p: Packet, tn: u16) -> u8
     requires { ⌜ length (now ws) ≡ NOTELIST ⌝ }
     requires { ⌜ Fits p ⌝ }
-    ensures { λ r. ⌜ Asked (note-questions (notes (now (ws .entry))) (note-of p tn)) (note-effect (notes (now (ws .entry))) (note-of p tn)) (notes (now (ws .exit))) (now (ws .entry)) (now (ws .exit)) r ⌝ }
+    ensures row { λ r. ⌜ Asked (note-questions (notes (now (ws .entry))) (note-of p tn)) (note-effect (notes (now (ws .entry))) (note-of p tn)) (notes (now (ws .exit))) (now (ws .entry)) (now (ws .exit)) r ⌝ }
+    ensures words { λ _. ⌜ items (now (ws .exit)) ≡ cond (has-note (notes (now (ws .entry))) (note-of p tn)) (items (now (ws .entry))) (push note-room (items (now (ws .entry))) (packed (note-of p tn))) ⌝ }
 {
     let x = Note {
         sender: p.sender,

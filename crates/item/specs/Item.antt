@@ -1,7 +1,7 @@
 -- A word as an item, and an item as a word. A field is what stands above its place value, modulo the number of its values.
-use Rattle.lists.specs.Basics.{_≡_, _&&_, ℕ, _+_, _*_, _/_, _%_, _<_, arith, eqb-true, eqb-false, eq-eqb, ne-eqb, eqb}
+use Rattle.lists.specs.Basics.{_≡_, _&&_, List, map, ℕ, _+_, _*_, _/_, _%_, _<_, arith, eqb-true, eqb-false, eq-eqb, ne-eqb, eqb}
 use Rattle.lists.specs.Tests.{either}
-use Rattle.words.specs.{Fields.{low, field}, Rows.{PEER, OWNER, named}}
+use Rattle.words.specs.{Fields.{low, field}, Rows.{PEER, OWNER, row, named}}
 use Rattle.item.specs.declared.Item.{Item}
 
 -- the place values
@@ -31,6 +31,10 @@ item-of w = record {
   hops = w / HOPS % 8;
   flags = w / FLAGS % 4;
 }
+
+-- a row's words, every bit of each
+unfoldable pub items : List ℕ → List Item
+items ws = map item-of (row ws)
 
 -- an item with its small fields reduced to their range
 unfoldable pub clipped : Item → Item

@@ -5,7 +5,7 @@ use Rattle.lists.specs.{Tests.either, Lists.find}
 use Rattle.protocol.specs.{declared.Message.Message, declared.Logged.Logged, declared.Lookup.the-variants.Unticketed, Packets.{for-receiver, looked-up, lookup, set-tn}}
 use Rattle.words.specs.{Rows.{row, named}, Mapped.find-holds}
 use Rattle.item.specs.{Item.{item-of, by-name as item-name}, Held.held-fit}
-use Rattle.logs.specs.Log.{logged-of, as-logged, fitted, entries}
+use Rattle.logs.specs.Log.{logged-of, as-logged, fitted, packed, entries}
 
 -- receiver and SN are the name
 pub by-name : (r n : ℕ) → n < 65536 → (w : ℕ) → for-receiver r n (logged-of w) ≡ named r n w
@@ -33,9 +33,9 @@ unfolding fitted
 fitted-same x h = rw (mod-eq-of-lt (h .sender), mod-eq-of-lt (h .receiver), mod-eq-of-lt (h .hops))
 
 -- a message of a log, with any TN
-pub fitted-tn : (t w : ℕ) (x : Logged) → x ≡ logged-of w → fitted (set-tn t x) ≡ set-tn t (logged-of w)
-unfolding set-tn
-fitted-tn t w x d = rw d (fitted-same (set-tn t (logged-of w)) (word-fits w))
+pub packed-tn : (t w : ℕ) → as-logged (packed (set-tn t (logged-of w))) ≡ set-tn t (logged-of w)
+unfolding set-tn as-logged packed fitted
+packed-tn t w = fitted-same (set-tn t (logged-of w)) (word-fits w)
 
 pub at-fits : (ws : List ℕ) (i : ℕ) → Fits (getD (entries ws) i (logged-of 0) .message)
 unfolding entries

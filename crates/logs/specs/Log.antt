@@ -1,5 +1,5 @@
 -- A logged message as an item of a row: the peer is the receiver, the owner the sender. A log is a row of them.
-use Rattle.lists.specs.Basics.{Bool, not, _&&_, List, map, ℕ, _%_, eqb, ltb}
+use Rattle.lists.specs.Basics.{_≡_, Bool, not, _&&_, List, map, ℕ, _%_, eqb, ltb}
 use Rattle.protocol.specs.declared.Logged.{Logged}
 use Rattle.item.specs.{declared.Item.Item, Item.item-of}
 use Rattle.words.specs.Rows.{row}
@@ -16,6 +16,14 @@ fitted x = record {
   message = record { sender = x .message .sender % 16; receiver = x .message .receiver % 16; sn = x .message .sn; value = x .message .value; hops = x .message .hops % 8 };
   tn = x .tn;
 }
+
+-- its word, bit by bit: a field that no message has is 0
+unfoldable pub packed : Logged → Item
+packed x = let m = x .message in record { sn = m .sn; peer = m .receiver % 16; owner = m .sender % 16; kind = 0; tn = x .tn; value = m .value; hops = m .hops % 8; flags = 0 }
+
+pub packed-logged : (w : ℕ) (x : Logged) → item-of w ≡ packed x → logged-of w ≡ fitted x
+unfolding logged-of as-logged fitted packed
+packed-logged w x e = rw e
 
 unfoldable pub entries : List ℕ → List Logged
 entries ws = map logged-of (row ws)

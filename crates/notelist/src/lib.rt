@@ -6,7 +6,8 @@ ghost use lib.ListN.{length, getD};
 ghost use Rattle.arrays.specs.Front.{push as pushed};
 ghost use Rattle.protocol.specs.Packets.{has-note};
 ghost use Rattle.words.specs.Becomes.{Becomes};
-ghost use Rattle.notelist.specs.Notes.{note-of, fitted, notes};
+ghost use Rattle.item.specs.Item.{item-of, items};
+ghost use Rattle.notelist.specs.Notes.{note-of, fitted, packed, notes};
 use item::Item;
 use item::KIND;
 use protocol::Note;
@@ -14,7 +15,7 @@ use words::OWNER;
 use words::PEER;
 
 fn pack(x: Note) -> u64
-    ensures { λ r. ⌜ note-of r ≡ fitted x ⌝ }
+    ensures { λ r. ⌜ item-of r ≡ packed x ⌝ }
 {
     item::pack(Item {
         sn: x.sn,
@@ -80,7 +81,8 @@ pub fn has(ws: &[u64], x: Note) -> bool
 
 // One more at the end; a full list stays.
 pub fn push(ws: &mut [u64], x: Note)
-    ensures { λ _. ⌜ Becomes notes (now (ws .entry)) (now (ws .exit)) (pushed (length (now (ws .entry)) - 1) (notes (now (ws .entry))) (fitted x)) ⌝ }
+    ensures row { λ _. ⌜ Becomes notes (now (ws .entry)) (now (ws .exit)) (pushed (length (now (ws .entry)) - 1) (notes (now (ws .entry))) (fitted x)) ⌝ }
+    ensures words { λ _. ⌜ items (now (ws .exit)) ≡ pushed (length (now (ws .entry)) - 1) (items (now (ws .entry))) (packed x) ⌝ }
 {
     words::push(ws, pack(x));
 }

@@ -10,11 +10,12 @@ ghost use Rattle.lists.specs.Lists.{keep};
 ghost use Rattle.arrays.specs.Front.{push};
 ghost use Rattle.protocol.specs.Packets.{is-named, kind, goes-to};
 ghost use Rattle.protocol.specs.Crash.{survives};
-ghost use Rattle.words.specs.Rows.{without};
+ghost use Rattle.words.specs.Rows.{row, without};
 ghost use Rattle.words.specs.Becomes.{Becomes};
 ghost use Rattle.head.specs.Head.{HEAD, job-of};
-ghost use Rattle.packets.specs.Words.{content-of, unpacked, fitted, packets};
-ghost use Rattle.packets.specs.Packing.{bare, Packs};
+ghost use Rattle.item.specs.Item.{item-of, items};
+ghost use Rattle.packets.specs.Words.{content-of, as-packet, unpacked, fitted, packets};
+ghost use Rattle.packets.specs.Packing.{bare, body-of, packed};
 ghost use Rattle.packets.specs.View.{sought};
 ghost use Rattle.packets.specs.Names.{has-name};
 ghost use Rattle.packets.specs.Stays.{stays, is-kept};
@@ -61,7 +62,7 @@ fn made(kind: u8, flags: u8, tn: u16, value: u16, hops: u8) -> Item
 
 // An item with nothing but its content.
 fn body(c: Content) -> Item
-    ensures { λ r. ⌜ Packs c r ⌝ }
+    ensures { λ r. ⌜ r ≡ body-of c ⌝ }
 {
     match c {
         Content::Ask => made(1, 0, 0, 0, 0),
@@ -75,7 +76,7 @@ fn body(c: Content) -> Item
 }
 
 fn pack(p: Packet) -> u64
-    ensures { λ r. ⌜ unpacked r ≡ fitted p ⌝ }
+    ensures { λ r. ⌜ item-of r ≡ packed p ⌝ }
 {
     let c = p.content;
     let x = body(c);
@@ -181,14 +182,16 @@ pub fn find(ws: &[u64], k: u8, sender: u8, receiver: u8, sn: u16) -> Found
 
 // One more at the end; a full wire stays.
 pub fn join(ws: &mut [u64], p: Packet)
-    ensures { λ _. ⌜ Becomes packets (now (ws .entry)) (now (ws .exit)) (push (length (now (ws .entry)) - 1) (packets (now (ws .entry))) (fitted p)) ⌝ }
+    ensures row { λ _. ⌜ Becomes packets (now (ws .entry)) (now (ws .exit)) (push (length (now (ws .entry)) - 1) (packets (now (ws .entry))) (fitted p)) ⌝ }
+    ensures words { λ _. ⌜ items (now (ws .exit)) ≡ push (length (now (ws .entry)) - 1) (items (now (ws .entry))) (packed p) ⌝ }
 {
     words::push(ws, pack(p));
 }
 
 // Takes the packet at a place off.
 pub fn leave(ws: &mut [u64], at: usize)
-    ensures { λ _. ⌜ Becomes packets (now (ws .entry)) (now (ws .exit)) (without at (packets (now (ws .entry)))) ⌝ }
+    ensures row { λ _. ⌜ Becomes packets (now (ws .entry)) (now (ws .exit)) (without at (packets (now (ws .entry)))) ⌝ }
+    ensures words { λ _. ⌜ row (now (ws .exit)) ≡ without at (row (now (ws .entry))) ⌝ }
 {
     words::remove(ws, at);
 }
@@ -251,7 +254,8 @@ fn is_kept(l: Leaving, h: &[u64], w: u64) -> bool
 // Those that are kept move down, in their order.
 fn sift(l: Leaving, ws: &mut [u64], h: &[u64])
     requires { ⌜ HEAD ≤ length (now h) ⌝ }
-    ensures { λ _. ⌜ Becomes packets (now (ws .entry)) (now (ws .exit)) (keep (is-kept l (job-of (now (h .entry)))) (packets (now (ws .entry)))) ⌝ }
+    ensures row { λ _. ⌜ Becomes packets (now (ws .entry)) (now (ws .exit)) (keep (is-kept l (job-of (now (h .entry)))) (packets (now (ws .entry)))) ⌝ }
+    ensures words { λ _. ⌜ items (now (ws .exit)) ≡ keep (λ x. is-kept l (job-of (now (h .entry))) (as-packet x)) (items (now (ws .entry))) ⌝ }
 {
     let n = words::count(ws);
     let mut i = 0;
@@ -272,7 +276,8 @@ fn sift(l: Leaving, ws: &mut [u64], h: &[u64])
 // Gone at a crash of machine p: all to p, and the GRANTs and NOTEs that its chares gave. h is a head.
 pub fn after_crash(ws: &mut [u64], h: &[u64], p: u8)
     requires { ⌜ HEAD ≤ length (now h) ⌝ }
-    ensures { λ _. ⌜ Becomes packets (now (ws .entry)) (now (ws .exit)) (keep (survives (job-of (now (h .entry))) p) (packets (now (ws .entry)))) ⌝ }
+    ensures row { λ _. ⌜ Becomes packets (now (ws .entry)) (now (ws .exit)) (keep (survives (job-of (now (h .entry))) p) (packets (now (ws .entry)))) ⌝ }
+    ensures words { λ _. ⌜ items (now (ws .exit)) ≡ keep (λ x. survives (job-of (now (h .entry))) p (as-packet x)) (items (now (ws .entry))) ⌝ }
 {
     sift(Leaving::Crash(p), ws, h);
 }
@@ -280,14 +285,16 @@ pub fn after_crash(ws: &mut [u64], h: &[u64], p: u8)
 // Gone at a restart of machine p: all to p.
 pub fn after_restart(ws: &mut [u64], h: &[u64], p: u8)
     requires { ⌜ HEAD ≤ length (now h) ⌝ }
-    ensures { λ _. ⌜ Becomes packets (now (ws .entry)) (now (ws .exit)) (keep (λ x. not (eqb (goes-to (job-of (now (h .entry))) x) p)) (packets (now (ws .entry)))) ⌝ }
+    ensures row { λ _. ⌜ Becomes packets (now (ws .entry)) (now (ws .exit)) (keep (λ x. not (eqb (goes-to (job-of (now (h .entry))) x) p)) (packets (now (ws .entry)))) ⌝ }
+    ensures words { λ _. ⌜ items (now (ws .exit)) ≡ keep (λ x. not (eqb (goes-to (job-of (now (h .entry))) (as-packet x)) p)) (items (now (ws .entry))) ⌝ }
 {
     sift(Leaving::Restart(p), ws, h);
 }
 
 // Takes every packet of a name off.
 pub fn leave_all(ws: &mut [u64], kind: u8, sender: u8, receiver: u8, sn: u16)
-    ensures { λ _. ⌜ Becomes packets (now (ws .entry)) (now (ws .exit)) (keep (λ x. not (is-named kind sender receiver sn x)) (packets (now (ws .entry)))) ⌝ }
+    ensures row { λ _. ⌜ Becomes packets (now (ws .entry)) (now (ws .exit)) (keep (λ x. not (is-named kind sender receiver sn x)) (packets (now (ws .entry)))) ⌝ }
+    ensures words { λ _. ⌜ items (now (ws .exit)) ≡ keep (λ x. not (is-named kind sender receiver sn (as-packet x))) (items (now (ws .entry))) ⌝ }
 {
     let h = [0; HEAD];
     let l = Leaving::Named {

@@ -4,6 +4,7 @@ pub mod Gather
 pub mod Ranges
 pub mod Fills
 pub mod Tables
+pub mod Words
 pub mod Stored
 pub mod OnMachine
 pub mod Sources

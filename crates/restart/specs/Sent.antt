@@ -1,12 +1,12 @@
 -- Packets put on a wire of 128 one by one, where there was room for them all.
-use Rattle.lists.specs.Basics.{_≡_, sym, ap, _∙_, Bool, true, false, List, [], _∷_, _++_, append-assoc, append-nil, map, Option, ℕ, _-_, _<_, _≤_, arith, le-leb, lt-leb}
+use Rattle.lists.specs.Basics.{_≡_, sym, ap, _∙_, Bool, true, false, List, [], _∷_, _++_, append-assoc, append-nil, map, Option, ℕ, _<_, _≤_, arith, le-leb, lt-leb}
 use Rattle.lists.specs.Basics.{length, length-append}
 use Rattle.arrays.specs.Front.{push, push-fits}
-use Rattle.protocol.specs.{declared.Content.Content, declared.Logged.Logged, declared.Message.Message, declared.Packet.Packet, Parts.State, Sending.about}
+use Rattle.protocol.specs.{declared.Logged.Logged, declared.Packet.Packet, Parts.State}
 use Rattle.logs.specs.Fits.{Fits}
-use Rattle.packets.specs.Words.{fitted, packets}
-use Rattle.store.specs.Places.{PACKETS}
-use Rattle.restart.specs.{declared.resend.Outgoing.Outgoing, declared.resend.Outgoing.the-variants.Send}
+use Rattle.item.specs.{declared.Item.Item, Item.items, Both.as-many}
+use Rattle.packets.specs.{Words.{fitted, unpacked, packets}, Packing.packed}
+use Rattle.restart.specs.declared.resend.Outgoing.{Outgoing}
 use Rattle.restart.specs.{Limited.{held, limit, one, more, more-limit}, Resends.{packets-of, again, again-fits}}
 
 abbrev pub one-more : List Packet → Packet → List Packet
@@ -15,20 +15,26 @@ one-more l x = l ++ (x ∷ [])
 abbrev pub putting : List Packet → List Packet → Option (List Packet)
 putting l xs = more 128 one-more (held true l) xs
 
--- ---- one packet
-module _ (m : Message) (c : Content) (ws : List ℕ) where
-  abbrev x : Packet
-  x = fitted (about m c)
+-- bit by bit
+abbrev pub word-more : List Item → Packet → List Item
+word-more l x = l ++ (packed x ∷ [])
 
-  pub put-one : length ws ≡ PACKETS → length (packets ws) < 128 → (out : List ℕ) → packets out ≡ push (length ws - 1) (packets ws) (fitted (about m c)) → held true (packets out) ≡ putting (packets ws) (map fitted (packets-of m (Send c)))
-  unfolding more one limit held packets-of
-  put-one size h out e =
-      let room : length ws - 1 ≡ 128 = omega arith in
-      rw (e, room, push-fits 128 (packets ws) x h, le-leb (length (one-more (packets ws) x)) 128 (simp length-append (omega arith)))
+abbrev pub putting-words : List Item → List Packet → Option (List Item)
+putting-words l xs = more 128 word-more (held true l) xs
 
-  pub put-full : 128 ≤ length (packets ws) → held false (packets ws) ≡ putting (packets ws) (map fitted (packets-of m (Send c)))
-  unfolding more one limit held packets-of
-  put-full h = rw (lt-leb (length (one-more (packets ws) x)) 128 (simp length-append (omega arith)))
+-- ---- one of them, b, as f makes it
+module _ {A B : Type 0} (f : B → A) (b : B) (l : List A) where
+  pub put-one : length l < 128 → (out : List A) → out ≡ push 128 l (f b) → held true out ≡ more 128 (λ k x. k ++ (f x ∷ [])) (held true l) (b ∷ [])
+  unfolding more one limit held
+  put-one h out e = rw (e, push-fits 128 l (f b) h, le-leb (length (l ++ (f b ∷ []))) 128 (simp length-append (omega arith)))
+
+  pub put-full : 128 ≤ length l → held false l ≡ more 128 (λ k x. k ++ (f x ∷ [])) (held true l) (b ∷ [])
+  unfolding more one limit held
+  put-full h = rw (lt-leb (length (l ++ (f b ∷ []))) 128 (simp length-append (omega arith)))
+
+pub words-many : (ws : List ℕ) → length (items ws) ≡ length (packets ws)
+unfolding packets
+words-many ws = as-many unpacked ws
 
 -- a logged message sent again: what a word holds is what goes out
 pub put-again : (x : Logged) → Fits (x .message) → (s : State) (p : ℕ) (here : Bool) (o : Outgoing) → packets-of (x .message) o ≡ again s p here x

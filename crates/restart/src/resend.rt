@@ -7,13 +7,14 @@ ghost use Rattle.lists.specs.Lists.{gather, sort};
 ghost use Rattle.protocol.specs.Parts.{every-sender};
 ghost use Rattle.protocol.specs.Restart.{from-here, log-order};
 ghost use Rattle.logs.specs.Log.{entries as messages};
+ghost use Rattle.item.specs.Item.{items};
 ghost use Rattle.packets.specs.Words.{fitted, packets};
 ghost use Rattle.memory.specs.Places.{ROW};
 ghost use Rattle.store.specs.Places.{PACKETS, STORE};
 ghost use Rattle.store.specs.View.{view};
 ghost use Rattle.restart.specs.Limited.{held};
 ghost use Rattle.restart.specs.Resends.{packets-of, elsewhere, again, all-again};
-ghost use Rattle.restart.specs.Sent.{putting};
+ghost use Rattle.restart.specs.Sent.{putting, putting-words};
 use crate::over::copy_over;
 use memory::LOG;
 use memory::MEMORY;
@@ -88,7 +89,8 @@ fn resend(s: &[u64], p: u8, here: bool, x: Logged) -> Outgoing
 // One more packet; false where there is no room.
 fn put(wire: &mut [u64], m: Message, o: Outgoing) -> bool
     requires { ⌜ length (now wire) ≡ PACKETS ⌝ }
-    ensures { λ r. ⌜ held r (packets (now (wire .exit))) ≡ putting (packets (now (wire .entry))) (map fitted (packets-of m o)) ⌝ }
+    ensures row { λ r. ⌜ held r (packets (now (wire .exit))) ≡ putting (packets (now (wire .entry))) (map fitted (packets-of m o)) ⌝ }
+    ensures words { λ r. ⌜ held r (items (now (wire .exit))) ≡ putting-words (items (now (wire .entry))) (packets-of m o) ⌝ }
 {
     let Outgoing::Send(content) = o else {
         return true;
@@ -111,7 +113,8 @@ fn put(wire: &mut [u64], m: Message, o: Outgoing) -> bool
 // A log, in its order.
 fn resend_log(s: &[u64], p: u8, here: bool, l: &[u64], wire: &mut [u64]) -> bool
     requires { ⌜ (length (now s) ≡ STORE) × (1 ≤ p) × (length (now wire) ≡ PACKETS) ⌝ }
-    ensures { λ r. ⌜ held r (packets (now (wire .exit))) ≡ putting (packets (now (wire .entry))) (gather (again (view (now (s .entry))) p here) (messages (now (l .entry)))) ⌝ }
+    ensures row { λ r. ⌜ held r (packets (now (wire .exit))) ≡ putting (packets (now (wire .entry))) (gather (again (view (now (s .entry))) p here) (messages (now (l .entry)))) ⌝ }
+    ensures words { λ r. ⌜ held r (items (now (wire .exit))) ≡ putting-words (items (now (wire .entry))) (gather (again (view (now (s .entry))) p here) (messages (now (l .entry)))) ⌝ }
 {
     let n = logs::count(l);
     let mut i = 0;
@@ -129,7 +132,8 @@ fn resend_log(s: &[u64], p: u8, here: bool, l: &[u64], wire: &mut [u64]) -> bool
 // A log by receiver and SN.
 fn resend_sorted(s: &[u64], p: u8, here: bool, l: &[u64], wire: &mut [u64]) -> bool
     requires { ⌜ (length (now s) ≡ STORE) × (1 ≤ p) × (length (now l) ≡ ROW) × (length (now wire) ≡ PACKETS) ⌝ }
-    ensures { λ r. ⌜ held r (packets (now (wire .exit))) ≡ putting (packets (now (wire .entry))) (gather (again (view (now (s .entry))) p here) (sort log-order (messages (now (l .entry))))) ⌝ }
+    ensures row { λ r. ⌜ held r (packets (now (wire .exit))) ≡ putting (packets (now (wire .entry))) (gather (again (view (now (s .entry))) p here) (sort log-order (messages (now (l .entry))))) ⌝ }
+    ensures words { λ r. ⌜ held r (items (now (wire .exit))) ≡ putting-words (items (now (wire .entry))) (gather (again (view (now (s .entry))) p here) (sort log-order (messages (now (l .entry))))) ⌝ }
 {
     let mut k = [0u64; 17];
     copy_over(l, &mut k);
@@ -140,7 +144,8 @@ fn resend_sorted(s: &[u64], p: u8, here: bool, l: &[u64], wire: &mut [u64]) -> b
 // The log of q: of a chare on machine p that of its copy.
 fn resend_from(s: &[u64], p: u8, q: u8, wire: &mut [u64]) -> bool
     requires { ⌜ (length (now s) ≡ STORE) × (1 ≤ p) × (q < 13) × (length (now wire) ≡ PACKETS) ⌝ }
-    ensures { λ r. ⌜ held r (packets (now (wire .exit))) ≡ putting (packets (now (wire .entry))) (all-again (view (now (s .entry))) p q) ⌝ }
+    ensures row { λ r. ⌜ held r (packets (now (wire .exit))) ≡ putting (packets (now (wire .entry))) (all-again (view (now (s .entry))) p q) ⌝ }
+    ensures words { λ r. ⌜ held r (items (now (wire .exit))) ≡ putting-words (items (now (wire .entry))) (all-again (view (now (s .entry))) p q) ⌝ }
 {
     let i = q as usize;
     if head::on(s, p, q) {
@@ -155,7 +160,8 @@ fn resend_from(s: &[u64], p: u8, q: u8, wire: &mut [u64]) -> bool
 
 pub(crate) fn resend_all(s: &[u64], p: u8, wire: &mut [u64]) -> bool
     requires { ⌜ (length (now s) ≡ STORE) × (1 ≤ p) × (length (now wire) ≡ PACKETS) ⌝ }
-    ensures { λ r. ⌜ held r (packets (now (wire .exit))) ≡ putting (packets (now (wire .entry))) (gather (all-again (view (now (s .entry))) p) every-sender) ⌝ }
+    ensures row { λ r. ⌜ held r (packets (now (wire .exit))) ≡ putting (packets (now (wire .entry))) (gather (all-again (view (now (s .entry))) p) every-sender) ⌝ }
+    ensures words { λ r. ⌜ held r (items (now (wire .exit))) ≡ putting-words (items (now (wire .entry))) (gather (all-again (view (now (s .entry))) p) every-sender) ⌝ }
 {
     let mut q = 0;
     while q < 13 {

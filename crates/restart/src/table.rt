@@ -1,11 +1,13 @@
 // The table of a chare at the restart of its machine, built in a row of its own.
 ghost use mathlib.Core.Path.{_≡_};
+ghost use mathlib.Core.List.{map};
 ghost use Prim.Native.Nat.{_<_};
 ghost use lib.ListN.{length};
 ghost use Rattle.lists.specs.Lists.{gather};
 ghost use Rattle.protocol.specs.Parts.{every-sender, every-chare};
 ghost use Rattle.protocol.specs.Restart.{is-ticketed-above, local-log, filled-table};
-ghost use Rattle.tickets.specs.Table.{entries};
+ghost use Rattle.item.specs.Item.{items};
+ghost use Rattle.tickets.specs.Table.{packed, entries};
 ghost use Rattle.logs.specs.Log.{entries as messages};
 ghost use Rattle.notelist.specs.Notes.{notes};
 ghost use Rattle.memory.specs.Places.{ROW};
@@ -15,6 +17,7 @@ ghost use Rattle.restart.specs.Limited.{held, limit};
 ghost use Rattle.restart.specs.Tables.{entering};
 ghost use Rattle.restart.specs.Sources.{copied, logged, noted, sender-tickets};
 ghost use Rattle.restart.specs.Fills.{filling};
+ghost use Rattle.restart.specs.Words.{AllPacked};
 use memory::LOG;
 use memory::MEMORY;
 use memory::TABLE;
@@ -27,7 +30,8 @@ use store::NOTES;
 // The copy's tickets, none received.
 fn from_copy(row: &mut [u64], t: &[u64]) -> bool
     requires { ⌜ length (now row) ≡ ROW ⌝ }
-    ensures { λ r. ⌜ held r (entries (now (row .exit))) ≡ entering (entries (now (row .entry))) (gather copied (entries (now (t .entry)))) ⌝ }
+    ensures row { λ r. ⌜ held r (entries (now (row .exit))) ≡ entering (entries (now (row .entry))) (gather copied (entries (now (t .entry)))) ⌝ }
+    ensures words { λ _. ⌜ (AllPacked (now (row .entry)) → AllPacked (now (row .exit))) ⌝ }
 {
     let n = tickets::count(t);
     let mut i = 0;
@@ -55,7 +59,8 @@ fn is_above(x: Logged, c: u8, h: u16) -> bool
 // The tickets above the height that a log holds for chare c.
 fn from_log(row: &mut [u64], l: &[u64], c: u8, h: u16) -> bool
     requires { ⌜ length (now row) ≡ ROW ⌝ }
-    ensures { λ r. ⌜ held r (entries (now (row .exit))) ≡ entering (entries (now (row .entry))) (gather (logged c h) (messages (now (l .entry)))) ⌝ }
+    ensures row { λ r. ⌜ held r (entries (now (row .exit))) ≡ entering (entries (now (row .entry))) (gather (logged c h) (messages (now (l .entry)))) ⌝ }
+    ensures words { λ _. ⌜ (AllPacked (now (row .entry)) → AllPacked (now (row .exit))) ⌝ }
 {
     let n = logs::count(l);
     let mut i = 0;
@@ -76,7 +81,8 @@ fn from_log(row: &mut [u64], l: &[u64], c: u8, h: u16) -> bool
 fn from_logs(row: &mut [u64], s: &[u64], p: u8, c: u8, h: u16) -> bool
     requires { ⌜ length (now row) ≡ ROW ⌝ }
     requires { ⌜ length (now s) ≡ STORE ⌝ }
-    ensures { λ r. ⌜ held r (entries (now (row .exit))) ≡ entering (entries (now (row .entry))) (gather (sender-tickets (view (now (s .entry))) p c h) every-sender) ⌝ }
+    ensures row { λ r. ⌜ held r (entries (now (row .exit))) ≡ entering (entries (now (row .entry))) (gather (sender-tickets (view (now (s .entry))) p c h) every-sender) ⌝ }
+    ensures words { λ _. ⌜ (AllPacked (now (row .entry)) → AllPacked (now (row .exit))) ⌝ }
 {
     let mut q = 0;
     while q < 13 {
@@ -97,7 +103,8 @@ fn from_logs(row: &mut [u64], s: &[u64], p: u8, c: u8, h: u16) -> bool
 // The notes above the height.
 fn from_notes(row: &mut [u64], w: &[u64], c: u8, h: u16) -> bool
     requires { ⌜ length (now row) ≡ ROW ⌝ }
-    ensures { λ r. ⌜ held r (entries (now (row .exit))) ≡ entering (entries (now (row .entry))) (gather (noted c h) (notes (now (w .entry)))) ⌝ }
+    ensures row { λ r. ⌜ held r (entries (now (row .exit))) ≡ entering (entries (now (row .entry))) (gather (noted c h) (notes (now (w .entry)))) ⌝ }
+    ensures words { λ _. ⌜ (AllPacked (now (row .entry)) → AllPacked (now (row .exit))) ⌝ }
 {
     let n = notelist::count(w);
     let mut i = 0;
@@ -117,7 +124,8 @@ fn from_notes(row: &mut [u64], w: &[u64], c: u8, h: u16) -> bool
 
 // Restored log messages to chare c above the height fill their entries.
 fn fill_from(row: &mut [u64], l: &[u64], c: u8, h: u16)
-    ensures { λ _. ⌜ entries (now (row .exit)) ≡ filling c h (entries (now (row .entry))) (messages (now (l .entry))) ⌝ }
+    ensures row { λ _. ⌜ entries (now (row .exit)) ≡ filling c h (entries (now (row .entry))) (messages (now (l .entry))) ⌝ }
+    ensures words { λ _. ⌜ (AllPacked (now (row .entry)) → AllPacked (now (row .exit))) ⌝ }
 {
     let n = logs::count(l);
     let mut i = 0;
@@ -133,7 +141,8 @@ fn fill_from(row: &mut [u64], l: &[u64], c: u8, h: u16)
 
 fn fill_all(row: &mut [u64], s: &[u64], p: u8, c: u8, h: u16)
     requires { ⌜ length (now s) ≡ STORE ⌝ }
-    ensures { λ _. ⌜ entries (now (row .exit)) ≡ filling c h (entries (now (row .entry))) (gather (local-log (view (now (s .entry))) p) every-chare) ⌝ }
+    ensures row { λ _. ⌜ entries (now (row .exit)) ≡ filling c h (entries (now (row .entry))) (gather (local-log (view (now (s .entry))) p) every-chare) ⌝ }
+    ensures words { λ _. ⌜ (AllPacked (now (row .entry)) → AllPacked (now (row .exit))) ⌝ }
 {
     let mut q = 1;
     while q < 13 {
@@ -151,7 +160,8 @@ fn fill_all(row: &mut [u64], s: &[u64], p: u8, c: u8, h: u16)
 // The table of chare c on machine p, where it fits.
 pub(crate) fn build(s: &[u64], p: u8, c: u8, row: &mut [u64]) -> bool
     requires { ⌜ (length (now s) ≡ STORE) × (length (now row) ≡ ROW) × (p < 7) × (c < 13) ⌝ }
-    ensures { λ r. ⌜ held r (entries (now (row .exit))) ≡ limit 16 (filled-table (view (now (s .entry))) p c) ⌝ }
+    ensures row { λ r. ⌜ held r (entries (now (row .exit))) ≡ limit 16 (filled-table (view (now (s .entry))) p c) ⌝ }
+    ensures words { λ _. ⌜ items (now (row .exit)) ≡ map packed (entries (now (row .exit))) ⌝ }
 {
     row[0] = 0;
     let a = COPY + (c as usize) * MEMORY;

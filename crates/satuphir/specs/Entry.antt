@@ -1,6 +1,6 @@
 -- The counts that a caller in C gets, and what its buffer then holds.
 use Rattle.lists.specs.Basics.{true, false, cond, List, [], _++_, _≡_, sym, ap, _∙_, ℕ, _≤_, _<_, leb, le-leb, lt-leb, length, drop}
-use Rattle.transcript.specs.{View.{enough, whole-output, Transcribed}, declared.Ended.Ended}
+use Rattle.transcript.specs.{Reading.Reading, View.{Ending, enough, whole-output, Transcribed}, declared.Ended.Ended}
 use Rattle.protocol.specs.Step.{answers}
 use Rattle.arrays.specs.Copies.{Wrote}
 use Rattle.crashsets.specs.{CrashSets.survivors, Digits.ROOM}
@@ -13,21 +13,35 @@ no-room = 18446744073709551615
 unfoldable pub counted : ℕ → List ℕ → ℕ
 counted room input = cond (enough room input) (length (answers input)) no-room
 
-pub record Entered (input room : List ℕ) (r : ℕ) (out : List ℕ) : Type 0 where
+pub record Entered (input room : List ℕ) (r written : ℕ) (out : List ℕ) : Type 0 where
   pub count : r ≡ counted (length room) input
-  pub bytes : out ≡ whole-output (length room) input ++ drop (length (whole-output (length room) input)) room
+  pub bytes : Wrote room (whole-output (length room) input) written out
 
 module _ (input room : List ℕ) (e : Ended) (out : List ℕ) (t : Transcribed input room e out) where
-  bytes-there : out ≡ whole-output (length room) input ++ drop (length (whole-output (length room) input)) room
-  bytes-there = t .bytes ∙ ap (λ n. whole-output (length room) input ++ drop n room) (t .written)
+  wrote : Wrote room (whole-output (length room) input) (e .written) out
+  wrote = record { count = t .written; bytes = t .bytes }
 
-  pub entered : e .ok ≡ true → Entered input room (e .written) out
+  pub entered : e .ok ≡ true → Entered input room (e .written) (e .written) out
   unfolding counted whole-output
-  entered h = record { count = t .written ∙ rw (sym (t .ok) ∙ h); bytes = bytes-there }
+  entered h = record { count = t .written ∙ rw (sym (t .ok) ∙ h); bytes = wrote }
 
-  pub not-entered : e .ok ≡ false → Entered input room no-room out
+  pub not-entered : e .ok ≡ false → Entered input room no-room (e .written) out
   unfolding counted
-  not-entered h = record { count = rw (sym (t .ok) ∙ h); bytes = bytes-there }
+  not-entered h = record { count = rw (sym (t .ok) ∙ h); bytes = wrote }
+
+-- the end of an input that came in pieces, of which n bytes of the line under way were read: then none is under way, or all is as it was
+pub record Finished (r : Reading) (n : ℕ) (room : List ℕ) (answer len : ℕ) (s line out : List ℕ) : Type 0 where
+  pub ended : Ended
+  pub ending : Ending r n room ended s line out
+  pub count : answer ≡ cond (ended .ok) (ended .written) no-room
+  pub left : len ≡ cond (ended .ok) 0 n
+
+module _ (r : Reading) (n : ℕ) (room : List ℕ) (e : Ended) (s line out : List ℕ) (h : Ending r n room e s line out) where
+  pub finished : e .ok ≡ true → Finished r n room (e .written) 0 s line out
+  finished ok = record { ended = e; ending = h; count = rw ok; left = rw ok }
+
+  pub not-finished : e .ok ≡ false → Finished r n room no-room n s line out
+  not-finished full = record { ended = e; ending = h; count = rw full; left = rw full }
 
 -- document 02, Point 8: all lines, or nothing where the buffer may be too short for them
 unfoldable pub lines-written : ℕ → List ℕ → List ℕ

@@ -4,6 +4,8 @@ use Rattle.lists.specs.Map.{upd}
 use Rattle.arrays.specs.Front.{push}
 use Rattle.protocol.specs.{declared.Message.Message, declared.Entry.Entry, declared.Packet.Packet, declared.Logged.Logged}
 use Rattle.protocol.specs.{declared.Content.the-variants.{Ask as ASK, Note as NOTE}, Parts.Memory, Setters.{with-log, with-sn}, Tickets.filled, Sending.{about, local-entry}}
+use Rattle.item.specs.declared.Item.{Item}
+use Rattle.packets.specs.Packing.{packed}
 use Rattle.sends.specs.{declared.ticket.Ticket.Ticket, declared.ticket.Ticket.the-variants.{Remote, Found, New, TooHigh}}
 
 -- no SN or TN passes 60,000
@@ -70,6 +72,13 @@ to-table = table-by capped
 
 abbrev pub to-wire : List Packet → Message → Ticket → List Packet
 to-wire = wire-by capped
+
+-- bit by bit
+unfoldable pub to-words : List Item → Message → Ticket → List Item
+to-words l m Remote = push 128 l (packed (about m ASK))
+to-words l m (Found t) = l
+to-words l m (New t) = push 128 l (packed (about m (NOTE t)))
+to-words l m TooHigh = l
 
 abbrev pub to-log : Memory → Message → ℕ → Memory
 to-log = log-by capped

@@ -1,5 +1,5 @@
 -- An entry's message worked on the five words of a memory, and the first question that refuses it.
-use Rattle.lists.specs.Basics.{_≡_, sym, _∙_, true, false, _&&_, List, [], _∷_, ℕ, _+_, _%_, _<_, _≤_, arith, le-leb, lt-leb, leb}
+use Rattle.lists.specs.Basics.{_≡_, refl, sym, _∙_, true, false, _&&_, List, [], _∷_, ℕ, _+_, _%_, _<_, _≤_, arith, le-leb, lt-leb, leb}
 use Rattle.lists.specs.Questions.{_asks_, first-no}
 use Rattle.protocol.specs.{declared.Entry.Entry, Parts.Memory, Work.work, Working.work-entry, Questions.mark-after}
 use Rattle.window.specs.{declared.Slid.Slid, Bits.{window-bits, TakenIn}}
@@ -28,11 +28,12 @@ pub record WorkedAs (x : Numbers) (e : Entry) (r : Worked) : Type 0 where
   pub answer : (m : Memory) → NumbersOf m (e .sender) x → r .answer ≡ first-no (own-questions m e)
   pub memory : (m : Memory) → NumbersOf m (e .sender) x → r .answer ≡ 0 → with-numbers m (e .sender) (r .numbers) ≡ work-entry m e
   pub small : r .answer ≡ 0 → Small (r .numbers)
+  pub stays : (r .answer ≡ 0 → ⊥) → r .numbers ≡ x
 
 module _ (x : Numbers) (e : Entry) where
   -- an answer above 0
   refused-as : (n : ℕ) → 0 < n → ((m : Memory) → NumbersOf m (e .sender) x → n ≡ first-no (own-questions m e)) → WorkedAs x e (record { answer = n; numbers = x })
-  refused-as n p q = record { answer = q; memory = λ m is z. absurd (omega arith); small = λ z. absurd (omega arith) }
+  refused-as n p q = record { answer = q; memory = λ m is z. absurd (omega arith); small = λ z. absurd (omega arith); stays = λ z. refl }
 
   pub not-ready : (e .received && e .noted) ≡ false → WorkedAs x e (record { answer = 6; numbers = x })
   unfolding first-no own-questions
@@ -66,4 +67,5 @@ module _ (x : Numbers) (e : Entry) where
         answer = λ m is. sym (asked m is ∙ rw (le-leb (d .mark) 60000 g));
         memory = λ m is z. rw (w-is, u-is, h-is, takes .mark-risen, takes .window-slid, k-is, is .state, is .height, is .mark, is .window);
         small = λ z. record { state = w-in; height = omega arith; mark = omega arith };
+        stays = λ z. absurd (z refl);
       }

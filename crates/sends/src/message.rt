@@ -4,11 +4,12 @@ ghost use Prim.Native.Nat.{_<_};
 ghost use lib.ListN.{length};
 ghost use Rattle.protocol.specs.Sending.{about};
 ghost use Rattle.words.specs.Becomes.{Becomes};
+ghost use Rattle.item.specs.Item.{items};
 ghost use Rattle.packets.specs.Words.{packets};
 ghost use Rattle.memory.specs.Places.{MEMORY};
 ghost use Rattle.memory.specs.View.{memory-view};
 ghost use Rattle.store.specs.Places.{PACKETS};
-ghost use Rattle.sends.specs.Ticket.{to-wire, message-after, to-log};
+ghost use Rattle.sends.specs.Ticket.{to-wire, to-words, message-after, to-log};
 use crate::ticket::Ticket;
 use memory::LOG;
 use memory::MEMORY;
@@ -59,7 +60,8 @@ fn about(m: Message, content: Content) -> Packet
 pub fn put(ws: &mut [u64], m: Message, k: Ticket)
     requires { ⌜ length (now ws) ≡ PACKETS ⌝ }
     requires { ⌜ (m .sender < 13) × (m .receiver < 13) ⌝ }
-    ensures { λ _. ⌜ Becomes packets (now (ws .entry)) (now (ws .exit)) (to-wire (packets (now (ws .entry))) m k) ⌝ }
+    ensures row { λ _. ⌜ Becomes packets (now (ws .entry)) (now (ws .exit)) (to-wire (packets (now (ws .entry))) m k) ⌝ }
+    ensures words { λ _. ⌜ items (now (ws .exit)) ≡ to-words (items (now (ws .entry))) m k ⌝ }
 {
     match k {
         Ticket::Remote => packets::join(ws, about(m, Content::Ask)),

@@ -5,11 +5,12 @@ ghost use Prim.Native.Nat.{_-_, _%_};
 ghost use lib.ListN.{length, getD};
 ghost use Rattle.lists.specs.Lists.{anyb, keep, find as first, change1};
 ghost use Rattle.arrays.specs.Front.{push as pushed};
-ghost use Rattle.protocol.specs.Tickets.{for-message, entry, filled, mark-noted, unreceived, has-tn, highest as highest-of, lowest-hole, next-tn};
+ghost use Rattle.protocol.specs.Tickets.{for-message, entry, fill as fill-in, filled, mark-noted, unreceived, has-tn, highest as highest-of, lowest-hole, next-tn};
 ghost use Rattle.protocol.specs.Checkpoint.{above-height};
 ghost use Rattle.protocol.specs.Restart.{below-hole};
 ghost use Rattle.words.specs.Becomes.{Becomes};
-ghost use Rattle.tickets.specs.Table.{entry-of, fitted, entries, found-entry, found-hole, Entering};
+ghost use Rattle.item.specs.Item.{item-of, items};
+ghost use Rattle.tickets.specs.Table.{as-entry, entry-of, fitted, packed, entries, found-entry, found-hole, Entering};
 use item::Item;
 use protocol::Entry;
 
@@ -24,7 +25,7 @@ pub enum FoundHole {
 }
 
 fn pack(e: Entry) -> u64
-    ensures { λ r. ⌜ entry-of r ≡ fitted e ⌝ }
+    ensures { λ r. ⌜ item-of r ≡ packed e ⌝ }
 {
     let flags = item::bit(e.received) + 2 * item::bit(e.noted);
     item::pack(Item {
@@ -96,14 +97,16 @@ pub fn find_tn(ws: &[u64], tn: u16) -> FoundEntry
 
 // One more entry at the end; a full table stays.
 pub fn push(ws: &mut [u64], e: Entry)
-    ensures { λ _. ⌜ Becomes entries (now (ws .entry)) (now (ws .exit)) (pushed (length (now (ws .entry)) - 1) (entries (now (ws .entry))) (fitted e)) ⌝ }
+    ensures row { λ _. ⌜ Becomes entries (now (ws .entry)) (now (ws .exit)) (pushed (length (now (ws .entry)) - 1) (entries (now (ws .entry))) (fitted e)) ⌝ }
+    ensures words { λ _. ⌜ items (now (ws .exit)) ≡ pushed (length (now (ws .entry)) - 1) (items (now (ws .entry))) (packed e) ⌝ }
 {
     words::push(ws, pack(e));
 }
 
 // A ticket, not received and noted from the start, at the end; a full table stays.
 pub fn enter(ws: &mut [u64], sender: u8, sn: u16, tn: u16)
-    ensures { λ _. ⌜ Becomes entries (now (ws .entry)) (now (ws .exit)) (pushed (length (now (ws .entry)) - 1) (entries (now (ws .entry))) (unreceived (sender % 16) sn tn)) ⌝ }
+    ensures row { λ _. ⌜ Becomes entries (now (ws .entry)) (now (ws .exit)) (pushed (length (now (ws .entry)) - 1) (entries (now (ws .entry))) (unreceived (sender % 16) sn tn)) ⌝ }
+    ensures words { λ _. ⌜ items (now (ws .exit)) ≡ pushed (length (now (ws .entry)) - 1) (items (now (ws .entry))) (packed (unreceived sender sn tn)) ⌝ }
 {
     let e = Entry {
         sender,
@@ -135,7 +138,8 @@ pub fn enter_once(ws: &mut [u64], sender: u8, sn: u16, tn: u16) -> bool
 
 // The first entry for a sender and an SN becomes received, with the message's value and hops.
 pub fn fill(ws: &mut [u64], sender: u8, sn: u16, value: u16, hops: u8)
-    ensures { λ _. ⌜ Becomes entries (now (ws .entry)) (now (ws .exit)) (filled sender sn value (hops % 8) (entries (now (ws .entry)))) ⌝ }
+    ensures row { λ _. ⌜ Becomes entries (now (ws .entry)) (now (ws .exit)) (filled sender sn value (hops % 8) (entries (now (ws .entry)))) ⌝ }
+    ensures words { λ _. ⌜ items (now (ws .exit)) ≡ change1 (λ x. for-message sender sn (as-entry x)) (λ x. packed (fill-in value hops (as-entry x))) (items (now (ws .entry))) ⌝ }
 {
     let i = words::seek(ws, sender, sn);
     if i < words::count(ws) {
@@ -155,7 +159,7 @@ pub fn fill(ws: &mut [u64], sender: u8, sn: u16, value: u16, hops: u8)
 
 // An entry noted.
 fn noted(w: u64) -> u64
-    ensures { λ r. ⌜ entry-of r ≡ mark-noted (entry-of w) ⌝ }
+    ensures { λ r. ⌜ item-of r ≡ packed (mark-noted (entry-of w)) ⌝ }
 {
     let e = unpack(w);
     pack(Entry {
@@ -171,7 +175,8 @@ fn noted(w: u64) -> u64
 
 // The first entry for a sender and an SN becomes noted.
 pub fn note(ws: &mut [u64], sender: u8, sn: u16)
-    ensures { λ _. ⌜ Becomes entries (now (ws .entry)) (now (ws .exit)) (change1 (for-message sender sn) mark-noted (entries (now (ws .entry)))) ⌝ }
+    ensures row { λ _. ⌜ Becomes entries (now (ws .entry)) (now (ws .exit)) (change1 (for-message sender sn) mark-noted (entries (now (ws .entry)))) ⌝ }
+    ensures words { λ _. ⌜ items (now (ws .exit)) ≡ change1 (λ x. for-message sender sn (as-entry x)) (λ x. packed (mark-noted (as-entry x))) (items (now (ws .entry))) ⌝ }
 {
     let i = words::seek(ws, sender, sn);
     if i < words::count(ws) {
@@ -182,7 +187,8 @@ pub fn note(ws: &mut [u64], sender: u8, sn: u16)
 
 // The entries above a height, all noted.
 pub fn prune(ws: &mut [u64], height: u16)
-    ensures { λ _. ⌜ Becomes entries (now (ws .entry)) (now (ws .exit)) (map mark-noted (keep (above-height height) (entries (now (ws .entry))))) ⌝ }
+    ensures row { λ _. ⌜ Becomes entries (now (ws .entry)) (now (ws .exit)) (map mark-noted (keep (above-height height) (entries (now (ws .entry))))) ⌝ }
+    ensures words { λ _. ⌜ items (now (ws .exit)) ≡ map (λ x. packed (mark-noted (as-entry x))) (keep (λ x. above-height height (as-entry x)) (items (now (ws .entry)))) ⌝ }
 {
     let n = words::count(ws);
     let mut i = 0;

@@ -108,7 +108,7 @@ pub fn feed(
 fn finish_on(s: &mut [u64], line: &mut [u8], n: usize, out: &mut [u8]) -> Ended
     requires { ⌜ length (now s) ≡ STORE ⌝ }
     requires { ⌜ length (now line) ≡ LINE ⌝ }
-    ensures { λ e. ⌜ Ending (reading (now (s .entry)) (now (line .entry)) n) (now (out .entry)) e (now (s .exit)) (now (out .exit)) ⌝ }
+    ensures { λ e. ⌜ Ending (reading (now (s .entry)) (now (line .entry)) n) n (now (out .entry)) e (now (s .exit)) (now (line .exit)) (now (out .exit)) ⌝ }
 {
     if n == 0 {
         return Ended {
@@ -125,7 +125,7 @@ fn finish_on(s: &mut [u64], line: &mut [u8], n: usize, out: &mut [u8]) -> Ended
 
 // At the end of the input: what follows the last newline is a line if it is not empty.
 pub fn finish(s: &mut [u64; STORE], line: &mut [u8; LINE], n: usize, out: &mut [u8]) -> Ended
-    ensures { λ e. ⌜ Ending (reading (now (s .entry)) (now (line .entry)) n) (now (out .entry)) e (now (s .exit)) (now (out .exit)) ⌝ }
+    ensures { λ e. ⌜ Ending (reading (now (s .entry)) (now (line .entry)) n) n (now (out .entry)) e (now (s .exit)) (now (line .exit)) (now (out .exit)) ⌝ }
 {
     finish_on(s, line, n, out)
 }

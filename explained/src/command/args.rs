@@ -1,6 +1,7 @@
 //! What was asked, from the words of the call. Options may stand anywhere; after `--` there are none.
 
 use super::Failure;
+use crate::variants::MOST;
 use reference::precedes::Name;
 use std::ffi::{OsStr, OsString};
 
@@ -17,6 +18,7 @@ pub enum Task {
     Next(Option<usize>),
     Survivors,
     Before,
+    Variants,
     Encode,
     Decode,
 }
@@ -29,8 +31,11 @@ pub struct Asked {
     pub table: bool,
     pub json: bool,
     pub list: OsString,
-    /// The file to write, for a picture or a page; `-` is standard output.
+    /// The file to write, for a picture or a page, `-` being standard output; for variants also a folder.
     pub out: Option<OsString>,
+    /// How many variants, and of which seed.
+    pub count: usize,
+    pub seed: u64,
     /// Of which processings it is asked whether the first came before the second.
     pub pairs: Vec<(Name, Name)>,
 }
@@ -45,6 +50,8 @@ struct Options {
     table: bool,
     json: bool,
     picture: Option<OsString>,
+    seed: Option<OsString>,
+    out: Option<OsString>,
 }
 
 fn usage<T>(message: String) -> Result<T, Failure> {
@@ -62,6 +69,8 @@ impl Asked {
             json: false,
             list: OsString::new(),
             out: None,
+            count: 0,
+            seed: 0,
             pairs: Vec::new(),
         };
         if options.help {
@@ -91,6 +100,7 @@ impl Asked {
             Some("next") => Task::Next(None),
             Some("survivors") => Task::Survivors,
             Some("before") => Task::Before,
+            Some("variants") => Task::Variants,
             Some("encode") => Task::Encode,
             Some("decode") => Task::Decode,
             _ => {
@@ -105,7 +115,12 @@ impl Asked {
             Task::Picture => Some(word("a file to write, such as out.svg")?),
             Task::Page => Some(word("a file to write, such as out.html")?),
             Task::Explain => options.picture.clone(),
+            Task::Variants => options.out.clone(),
             _ => None,
+        };
+        let count = match task {
+            Task::Variants => count(&word("a number of lists, such as 3")?)?,
+            _ => 0,
         };
         let pairs = match task {
             Task::Before => pairs(words.by_ref())?,
@@ -134,6 +149,9 @@ impl Asked {
         if options.table && options.json {
             return usage("--table and --json do not go together".to_string());
         }
+        if (options.seed.is_some() || options.out.is_some()) && task != Task::Variants {
+            return usage("--seed and --out go with variants alone".to_string());
+        }
         Ok(Asked {
             task,
             quick: options.quick,
@@ -142,6 +160,8 @@ impl Asked {
             json: options.json,
             list,
             out,
+            count,
+            seed: options.seed.map_or(Ok(1), |word| seed(&word))?,
             pairs,
         })
     }
@@ -175,6 +195,14 @@ fn sort(given: Vec<OsString>) -> Result<(Options, Vec<OsString>), Failure> {
                 Some(file) => options.picture = Some(file),
                 None => return usage("--picture needs a file to write".to_string()),
             },
+            Some("--seed") => match given.next() {
+                Some(seed) => options.seed = Some(seed),
+                None => return usage("--seed needs a number".to_string()),
+            },
+            Some("--out") => match given.next() {
+                Some(out) => options.out = Some(out),
+                None => return usage("--out needs a file or folder to write".to_string()),
+            },
             _ if is_option(&word) => {
                 return usage(format!("there is no option \"{}\"", word.to_string_lossy()));
             }
@@ -196,6 +224,27 @@ fn frame(word: &OsStr, call: &str) -> Result<usize, Failure> {
         None => usage(format!(
             "\"{}\" is no number of a frame: {call}, N from 0",
             word.to_string_lossy()
+        )),
+    }
+}
+
+fn count(word: &OsStr) -> Result<usize, Failure> {
+    match word.to_str().and_then(|word| word.parse().ok()) {
+        Some(number) if (1..=MOST).contains(&number) => Ok(number),
+        _ => usage(format!(
+            "\"{}\" is no number of lists: variants LIST N, N from 1 to {MOST}",
+            word.to_string_lossy()
+        )),
+    }
+}
+
+fn seed(word: &OsStr) -> Result<u64, Failure> {
+    match word.to_str().and_then(|word| word.parse().ok()) {
+        Some(seed) => Ok(seed),
+        None => usage(format!(
+            "\"{}\" is no seed: a number is one, from 0 to {}",
+            word.to_string_lossy(),
+            u64::MAX
         )),
     }
 }

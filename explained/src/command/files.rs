@@ -58,7 +58,7 @@ pub fn list(list: &OsStr, input: &[u8]) -> Result<List, Failure> {
     })
 }
 
-fn shown(list: &OsStr) -> String {
+pub fn shown(list: &OsStr) -> String {
     match is_standard(list) {
         true => "standard input".to_string(),
         false => list.to_string_lossy().into_owned(),
@@ -124,9 +124,9 @@ pub fn look_at_ending(out: &OsStr, is_picture: bool) -> Result<(), Failure> {
     )))
 }
 
-pub fn write(out: &OsStr, text: &str) -> Result<(), Failure> {
+pub fn write(out: &OsStr, text: impl AsRef<[u8]>) -> Result<(), Failure> {
     match is_standard(out) {
-        true => print(text.as_bytes()),
+        true => print(text.as_ref()),
         false => fs::write(out, text).map_err(|error| named(out, &error)),
     }
 }

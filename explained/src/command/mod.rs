@@ -4,6 +4,7 @@ mod args;
 mod files;
 mod run;
 mod usage;
+mod variants;
 
 use args::Asked;
 use std::ffi::OsString;

@@ -3,7 +3,7 @@
 use super::args::{Asked, Task};
 use super::files::{self, print};
 use super::usage::HELP;
-use super::{Failure, DIFFERENT, DONE, NEEDS_ENGINE};
+use super::{variants, Failure, DIFFERENT, DONE, NEEDS_ENGINE};
 use crate::data::Source;
 use crate::hints::hints;
 use crate::lines::cut;
@@ -43,12 +43,16 @@ fn look_at_out(asked: &Asked) -> Result<(), Failure> {
     if files::is_standard(out) {
         return match asked.task {
             Task::Explain => usage("--picture needs a file: the words go to standard output"),
+            Task::Variants => usage("--out needs a file or a folder: without it lists are printed"),
             _ if asked.pages => usage("--pages needs a file: it writes several, and - is one"),
             _ => Ok(()),
         };
     }
-    files::keep_apart(&asked.list, out)?;
-    files::look_at_ending(out, is_picture)?;
+    // The files of variants have names of their own.
+    if asked.task != Task::Variants {
+        files::keep_apart(&asked.list, out)?;
+        files::look_at_ending(out, is_picture)?;
+    }
     files::look_at_folder(out)
 }
 
@@ -79,11 +83,12 @@ pub fn run(asked: &Asked) -> Result<u8, Failure> {
         Task::Encode => print(digits).map(|()| DONE),
         Task::Decode => print(notation::decode(digits).as_bytes()).map(|()| DONE),
         Task::Survivors => counts(asked, digits),
+        Task::Variants => variants::run(asked, &input, digits),
         _ => with_lines(asked, &input, &list),
     }
 }
 
-fn say(notes: &[String]) {
+pub fn say(notes: &[String]) {
     for note in notes {
         eprintln!("satuphir: note: {note}");
     }
@@ -92,7 +97,7 @@ fn say(notes: &[String]) {
 const QUICK: &str = "the second implementation's, not the proved engine's";
 
 /// Whose lines a quick run gives is said before them.
-fn say_whose(asked: &Asked) {
+pub fn say_whose(asked: &Asked) {
     if asked.quick {
         eprintln!("satuphir: --quick: the lines are {QUICK}");
     }
@@ -112,12 +117,21 @@ fn counts(asked: &Asked, digits: &[u8]) -> Result<u8, Failure> {
     Ok(status(difference))
 }
 
+/// The proved engine's lines, or the second implementation's for a quick run.
+pub fn lines_of(asked: &Asked, digits: &[u8]) -> Vec<u8> {
+    match asked.quick {
+        true => answer_all(digits),
+        false => engine::lines(digits),
+    }
+}
+
 /// What needs the lines of the list.
 fn with_lines(asked: &Asked, given: &[u8], list: &List) -> Result<u8, Failure> {
     let List { digits, places } = list;
-    let (lines, whose) = match asked.quick {
-        true => (answer_all(digits), QUICK),
-        false => (engine::lines(digits), "the proved engine's"),
+    let lines = lines_of(asked, digits);
+    let whose = match asked.quick {
+        true => QUICK,
+        false => "the proved engine's",
     };
     let ask = (!asked.quick).then_some(engine::precedes as before::Ask);
     say_whose(asked);
@@ -217,7 +231,7 @@ fn put_picture(asked: &Asked, story: &Story) -> Result<(), Failure> {
     Ok(())
 }
 
-fn status(difference: Option<impl Display>) -> u8 {
+pub fn status(difference: Option<impl Display>) -> u8 {
     match difference {
         None => DONE,
         Some(difference) => {

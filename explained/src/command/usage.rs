@@ -9,6 +9,7 @@ tools/satuphir state N LIST              all that stands after frame N, with wha
 tools/satuphir next [N] LIST             what would be accepted after the list, or after frame N
 tools/satuphir survivors LIST            how many crash sets the buddies of the list's job survive
 tools/satuphir before LIST [A B]...      what came before what: which processing before which
+tools/satuphir variants LIST N           N lists like it, with other values injected
 tools/satuphir encode LIST               words to hexadecimal digits
 tools/satuphir decode LIST               hexadecimal digits to words
 
@@ -31,15 +32,25 @@ TN, or through the processing that sent B's message, or through a chain of such 
 list does not do one of them. Without a pair it prints all of them, each with the ones that arrows
 come from and all that came before it. A row of more than 512 is bad. docs/BEFORE.md has an example.
 
+variants changes injected values alone: each becomes another one with as many decimal digits. It is
+checked that every line stays, but for the states that shows give. The lists are in words, without
+comments, if LIST is, else in digits. They are printed, if N is above 1 each under a line
+\"# variant 1 of N\", or written to files with --out. A list that injects nothing, or too little for N
+variants, has none.
+
 --quick               play with the second implementation, which builds in seconds: these are not
                       the proved engine's lines, and every such run says so
 --table               with play: number, words and line of each frame
 --json                with play, state and next: the same for programs
 --picture OUT.svg     with explain: the picture too
 --pages               with picture: one file for each sheet of A4, OUT-1.svg, OUT-2.svg, ...
+--seed S              with variants: the same seed gives the same lists; 1 if it is not said
+--out OUT             with variants: for OUT.txt the files OUT-1.txt, OUT-2.txt, ...; in the folder
+                      OUT, if it is one, files with the list's name and a number
 --help, --version     this; the version
 
 The first call that needs the proved engine proves and builds it, which takes minutes.
-Status: 0 done; 1 the engine and the second implementation differ; 2 bad usage, a list that
-cannot be read or has mistakes in its words, a result that cannot be written.
+Status: 0 done; 1 the engine and the second implementation differ, or a variant's lines from the
+list's; 2 bad usage, a list that cannot be read or has mistakes in its words, a result that cannot
+be written.
 ";

@@ -58,6 +58,7 @@ pub fn with_list(list: &OsStr) -> Vec<Vec<&OsStr>> {
         vec![word("next"), list],
         vec![word("survivors"), list],
         vec![word("before"), list],
+        vec![word("variants"), list, word("2")],
         vec![word("encode"), list],
         vec![word("decode"), list],
     ]

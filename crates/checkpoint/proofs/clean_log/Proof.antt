@@ -13,7 +13,7 @@ unfolding cleaned
 returns c =
     let u = c .before .before in
     let st = u .before .before .before .before in
-    log-changed (st .args .m .now) (u .clean .last .0) (st .pre) (omega arith) (keep (is-kept (as-map 0 (st .args .limits .now)))) (u .clean .ensures .items)
+    log-changed (st .args .m .now) (u .clean .last .0) (st .pre) (omega arith) (keep (is-kept (as-map 0 (st .args .limits .now)))) (u .clean .ensures .0 .items)
 
 pub clean-log-spec : {M : Type 1} → statement M
 clean-log-spec =

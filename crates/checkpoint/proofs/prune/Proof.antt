@@ -12,7 +12,7 @@ returns c =
     let u = c .before .before in
     let st = u .before .before .before .before .before in
     let h = u .before .before .height in
-    table-changed (st .args .m .now) (u .prune .last .0) (st .pre) (omega arith) (λ l. map mark-noted (keep (above-height (h .result)) l)) (u .prune .ensures .items) ∙ rw (h .ensures)
+    table-changed (st .args .m .now) (u .prune .last .0) (st .pre) (omega arith) (λ l. map mark-noted (keep (above-height (h .result)) l)) (u .prune .ensures .0 .items) ∙ rw (h .ensures)
 
 pub prune-spec : {M : Type 1} → statement M
 prune-spec =

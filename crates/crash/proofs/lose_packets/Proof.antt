@@ -9,7 +9,7 @@ returns c =
     let u = c .before .before in
     let h = u .before .before .before in
     let st = h .before .before .before in
-    wire-is (st .args .s .now) (h .copy .result) (u .after-crash .last .0) (st .args .p) (st .pre) (omega arith) (h .copy .ensures) (u .after-crash .ensures .items)
+    wire-is (st .args .s .now) (h .copy .result) (u .after-crash .last .0) (st .args .p) (st .pre) (omega arith) (h .copy .ensures) (u .after-crash .ensures .0 .items)
 
 pub lose-packets-spec : {M : Type 1} → statement M
 lose-packets-spec =

@@ -24,7 +24,7 @@ returns c =
     let a = st .args in
     let e = list-length (h .home .result) in
     rw e (note-refused (a .s .now) (st .pre .0) (a .at) (a .p) (st .pre .1) (a .tn) (h .home .result) (h .home .ensures .0) (omega (arith, h .home .ensures .1))
-    (g .note .last .0) (omega arith) _ (rw e at (g .note .ensures)) (c .if1 .taken))
+    (g .note .last .0) (omega arith) _ (rw e at (g .note .ensures .0)) (c .if1 .taken))
 
 returns-2 : tie.Need-returns-2
 returns-2 c =
@@ -36,7 +36,7 @@ returns-2 c =
     let a = st .args in
     let e = list-length (h .home .result) in
     rw e (note-done (a .s .now) (st .pre .0) (a .at) (a .p) (st .pre .1) (a .tn) (h .home .result) (h .home .ensures .0) (omega (arith, h .home .ensures .1))
-    (g .note .last .0) (omega arith) _ (rw e at (g .note .ensures)) (i .if1 .left) (w .answer .last .0) (omega arith) (rw e at (w .answer .ensures .on .items)))
+    (g .note .last .0) (omega arith) _ (rw e at (g .note .ensures .0)) (i .if1 .left) (w .answer .last .0) (omega arith) (rw e at (w .answer .ensures .on .items)))
 
 pub deliver-note-spec : {M : Type 1} → statement M
 deliver-note-spec =

@@ -7,7 +7,7 @@ use Rattle.packets.proofs.leave.Tie as tie
 
 returns : tie.Need-returns
 unfolding packets
-returns c = becomes-mapped unpacked (c .before .before .remove .ensures) (map-without unpacked _ (row _))
+returns c = let r = c .before .before .remove .ensures in (becomes-mapped unpacked r (map-without unpacked _ (row _)), r .items)
 
 pub leave-spec : {M : Type 1} → statement M
 leave-spec = tie.close (tie.spec (λ c κs. search needs) (λ c. search needs) returns)

@@ -10,7 +10,7 @@ use lib.ListN.{getD}
 use Rattle.lists.specs.Questions.{put-all}
 use Rattle.protocol.specs.declared.Answer.{Answer}
 use Rattle.protocol.specs.declared.Answer.the-variants.{Refused}
-use Rattle.protocol.specs.Parts.{Job, State}
+use Rattle.protocol.specs.Parts.{Job, State, start}
 use Rattle.protocol.specs.Frames.{Line, Frame, job, inject, deliver, work, checkpoint, crash, restart, show, withdraw, frame, between, is-whole}
 use Rattle.protocol.specs.Job.{machines-of, buddy-byte, job-in-range, has-machine, job-of, begin}
 use Rattle.protocol.specs.Questions.{questions}
@@ -99,10 +99,17 @@ unfoldable pub spelt-frame : Option Frame → Option Frame
 spelt-frame none = none
 spelt-frame (some f) = some (spelt f)
 
--- the second list is the first with every 00 of a job spelt out; how a line writes its digits is free
-pub data Rewritten : List Line → List Line → Type 0 where
-  nothing : Rewritten [] []
-  line : {l k : Line} {ls ks : List Line} → frame k ≡ spelt-frame (frame l) → Rewritten ls ks → Rewritten (l ∷ ls) (k ∷ ks)
+-- a job that relied on nothing: it was refused, or it has two machines
+pub data MayStay (s : State) : Option Frame → Type 0 where
+  refused : {b : List ℕ} {n : ℕ} → play-before s (job b) .answer ≡ Refused n → MayStay s (some (job b))
+  of-two : {b : List ℕ} → machines-of b ≡ 2 → MayStay s (some (job b))
+
+-- from the state s on, the second list is the first with every 00 of a job spelt out, but for jobs that may stay; how a line writes its
+-- digits is free
+pub data Rewritten : State → List Line → List Line → Type 0 where
+  nothing : {s : State} → Rewritten s [] []
+  line : {s : State} {l k : Line} {ls ks : List Line} → frame k ≡ spelt-frame (frame l) → Rewritten (step-before s (frame l) .state) ls ks → Rewritten s (l ∷ ls) (k ∷ ks)
+  stays : {s : State} {l k : Line} {ls ks : List Line} → frame k ≡ frame l → MayStay s (frame l) → Rewritten (step-before s (frame l) .state) ls ks → Rewritten s (l ∷ ls) (k ∷ ks)
 
 -- ---- what is claimed
 -- the bytes of a job that questions 1 and 3 let pass
@@ -116,7 +123,10 @@ pub record ZeroBuddy : Type 0 where
   pub acceptable : (b : List ℕ) → Acceptable b → Acceptable (spelt-out b)
   pub same-job : (b : List ℕ) → Acceptable b → job-of (spelt-out b) ≡ job-before b
   -- a rewritten list gets the same answers, from any state on, and so the same lines; for instance this one
-  pub same-answers : (s : State) (ls ks : List Line) → Rewritten ls ks → answers-from s ks ≡ answers-before s ls
-  pub instance : Rewritten (text "010301000000010000" ∷ []) (text "010301020301010000" ∷ [])
+  pub same-answers : (s : State) (ls ks : List Line) → Rewritten s ls ks → answers-from s ks ≡ answers-before s ls
+  pub instance : (ls : List Line) → Rewritten start (text "1601" ∷ text "010301000000010000" ∷ ls) (text "1601" ∷ text "010301020301010000" ∷ ls)
+  pub instance-two : (ls : List Line) → Rewritten start (text "0102010000010000" ∷ ls) (text "0102010000010000" ∷ ls)
+  -- "The stored exam jobs": once a job is accepted every other is refused, so that only the accepted one is spelt out
+  pub stored : (s : State) (l k : Line) (ls : List Line) → frame k ≡ spelt-frame (frame l) → step-before s (frame l) .state .job .set ≡ true → Rewritten s (l ∷ ls) (k ∷ ls)
   -- with two machines nothing differs
   pub two-machines : (b : List ℕ) → machines-of b ≡ 2 → job-of b ≡ job-before b

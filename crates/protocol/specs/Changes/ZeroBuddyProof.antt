@@ -1,6 +1,6 @@
 -- Why a list with 00 spelt out gets the lines that 00 gave before.
 use mathlib.Core.Path.{_≡_, refl, sym, ap, _∙_, fun-ext}
-use mathlib.Core.Bool.{true, false, cond, not, _&&_}
+use mathlib.Core.Bool.{Bool, true, false, cond, not, _&&_}
 use mathlib.Core.Logic.{_⊎_, inl, inr, _≢_}
 use mathlib.Core.List.{List, [], _∷_}
 use mathlib.Core.Option.{Option, some, none}
@@ -10,15 +10,30 @@ use lib.Dec.{eqb, leb}
 use lib.ListN.{length, getD, List·getD-eq-default}
 use borrow.Author.Tests.{eqb-true, eqb-false, eq-eqb, ne-eqb, leb-true, le-leb, lt-leb}
 use Rattle.lists.specs.Tests.{either, split, lt?, and-r}
+use Rattle.lists.specs.Questions.{Question, _asks_, put-all}
 use Rattle.lists.specs.Lists.{keep, keep-mem, allb, allb-ext}
+use Rattle.protocol.specs.declared.Entry.{Entry}
+use Rattle.protocol.specs.declared.Packet.{Packet}
+use Rattle.protocol.specs.declared.Rule.{Rule}
+use Rattle.protocol.specs.declared.Rule.the-variants.{Other}
+use Rattle.protocol.specs.declared.Answer.the-variants.{Refused}
+use Rattle.protocol.specs.Sending.{send}
+use Rattle.protocol.specs.Working.{next-entry, worked-only, receivers-of, value-out, hops-out, work-next}
+use Rattle.protocol.specs.Packets as packets
+use Rattle.protocol.specs.Checkpoint as checkpoints
+use Rattle.protocol.specs.Crash as crashes
+use Rattle.protocol.specs.Restart as restarts
+use Rattle.protocol.specs.Withdraw as withdrawals
+use Rattle.protocol.specs.Recovery.Along.{settled}
+use Rattle.protocol.specs.Recovery.Frames.Calm.{calm-send, calm-send-all, calm-deliver}
 use Rattle.protocol.specs.Parts.{State, every-chare, every-machine}
-use Rattle.protocol.specs.Frames.{Line, job, frame, frame-of, parts, bytes, between, is-whole, exact-length, least-length}
+use Rattle.protocol.specs.Frames.{Line, Frame, job, inject, deliver, work, checkpoint, crash, restart, show, withdraw, frame, frame-of, parts, bytes, between, is-whole, exact-length, least-length}
 use Rattle.protocol.specs.Job.{machines-of, chares-of, buddy-byte, chare-byte, buddy-in-range, chare-in-range, job-in-range, has-machine, has-chare, previous-machine, job-of, first-memory, begin}
-use Rattle.protocol.specs.Questions.{questions, job-questions}
-use Rattle.protocol.specs.Step.{play, outcome, step, step-frame, answers-from}
+use Rattle.protocol.specs.Questions.{questions, job-questions, on-wire}
+use Rattle.protocol.specs.Step.{Outcome, play, judged, accept-by, accept, deliver-outcome, work-outcome, crash-outcome, outcome, step, step-frame, answers-from}
 use Rattle.protocol.specs.Cases.Computing.{opened}
 use Rattle.protocol.specs.Recovery.Frames.Job.{between-true, true-between, machine-positive, chare-positive}
-use Rattle.protocol.specs.Changes.ZeroBuddy.{next-machine, buddy-before, job-before, begin-before, play-before, step-before, answers-before, spelt-byte, by-place, spelt-out, spelt, spelt-frame, Rewritten, nothing, line, ZeroBuddy}
+use Rattle.protocol.specs.Changes.ZeroBuddy.{next-machine, buddy-before, job-before, begin-before, play-before, step-before, answers-before, spelt-byte, by-place, spelt-out, spelt, spelt-frame, MayStay, refused, of-two, Rewritten, nothing, line, stays, ZeroBuddy}
 
 -- ---- bytes by their places
 by-place-length : (f : ℕ → ℕ → ℕ) (k : ℕ) (l : List ℕ) → length (by-place f k l) ≡ length l
@@ -199,13 +214,6 @@ module _ (s : State) where
   unfolding step frame
   same-step l k e = ap (step-frame s) e ∙ same-frame (bytes l)
 
-same-answers : (s : State) {ls ks : List Line} → Rewritten ls ks → answers-from s ks ≡ answers-before s ls
-unfolding answers-from answers-before
-same-answers s nothing = refl
-same-answers s (line {l} {k} {ls} {ks} e r) =
-    let o = step-before s (frame l) in
-    ap (λ q. q .answer ∷ answers-from (q .state) ks) (same-step s l k e) ∙ ap (o .answer ∷_) (same-answers (o .state) r)
-
 -- ---- two machines
 two-differ-in-nothing : (p : ℕ) → (1 ≤ p) × (p ≤ 2) → previous-machine 2 p ≡ next-machine 2 p
 unfolding previous-machine next-machine
@@ -228,8 +236,101 @@ two-machines b m = λ i. record {
     same : (p : ℕ) → job-of b .buddy p ≡ buddy-before b p
     same p = rw m (either (between 1 2 p) (λ e. rw (e, two-differ-in-nothing p (between-true 1 2 p e))) (λ e. rw e))
 
+-- ---- a job that may stay
+-- what is refused does not see what would follow
+refused-same : (s : State) (qs : List Question) (x y : State) (n : ℕ) → judged s (put-all qs (accept y)) .answer ≡ Refused n → judged s (put-all qs (accept x)) ≡ judged s (put-all qs (accept y))
+unfolding judged put-all accept
+refused-same s [] x y n e = absurd (let z : _≡_ {A = ℕ} 0 1 = cc in omega arith)
+refused-same s (k asks true ∷ qs) x y n e = refused-same s qs x y n e
+refused-same s (k asks false ∷ qs) x y n e = refl
+
+two-begin : (b : List ℕ) → machines-of b ≡ 2 → begin b ≡ begin-before b
+unfolding begin begin-before
+two-begin b m = rw (two-machines b m)
+
+may-stay : (s : State) (o : Option Frame) → MayStay s o → step-frame s o ≡ step-before s o
+unfolding step-frame step-before play play-before questions outcome
+may-stay s (some (job b)) (refused {n = n} e) = refused-same s (job-questions s b) (begin b) (begin-before b) n e
+may-stay s (some (job b)) (of-two m) = rw (two-begin b m)
+
+same-stays : (s : State) (l k : Line) → frame k ≡ frame l → MayStay s (frame l) → step s k ≡ step-before s (frame l)
+unfolding step
+same-stays s l k e m = ap (step-frame s) e ∙ may-stay s (frame l) m
+
+same-answers : (s : State) {ls ks : List Line} → Rewritten s ls ks → answers-from s ks ≡ answers-before s ls
+unfolding answers-from answers-before
+same-answers s nothing = refl
+same-answers s (line {l = l} {k} {ls} {ks} e r) =
+    let o = step-before s (frame l) in
+    ap (λ q. q .answer ∷ answers-from (q .state) ks) (same-step s l k e) ∙ ap (o .answer ∷_) (same-answers (o .state) r)
+same-answers s (stays {l = l} {k} {ls} {ks} e m r) =
+    let o = step-before s (frame l) in
+    ap (λ q. q .answer ∷ answers-from (q .state) ks) (same-stays s l k e m) ∙ ap (o .answer ∷_) (same-answers (o .state) r)
+
+-- ---- once a job is set no line sets another, and all that follow may stay
+judged-job : (s : State) (o : Outcome) → o .state .job ≡ s .job → (qs : List Question) → judged s (put-all qs o) .state .job ≡ s .job
+unfolding judged put-all
+judged-job s o e [] = e
+judged-job s o e (n asks true ∷ qs) = judged-job s o e qs
+judged-job s o e (n asks false ∷ qs) = refl
+
+accepted-job : (r : Rule) (s t : State) → t .job ≡ s .job → accept-by r t .state .job ≡ s .job
+accepted-job r s t e = ap (λ s. s .job) (settled t) ∙ e
+
+delivered-job : (s : State) (k a r n : ℕ) (o : Option Packet) → deliver-outcome s k a r n o .state .job ≡ s .job
+unfolding deliver-outcome accept
+delivered-job s k a r n none = accepted-job Other s s refl
+delivered-job s k a r n (some x) = accepted-job (packets.rule-of s x (x .content)) s (packets.deliver s k a r n x) (calm-deliver s k a r n x .job)
+
+worked-job : (s : State) (c : ℕ) (o : Option Entry) → work-outcome s c o .state .job ≡ s .job
+unfolding work-outcome work-next worked-only accept
+worked-job s c none = accepted-job Other s s refl
+worked-job s c (some e) = accepted-job Other s _ (calm-send-all (worked-only s c e) c (receivers-of s c e) (value-out s c e) (hops-out e) .job)
+
+crashed-job : (s : State) (p : ℕ) (b : Bool) → crash-outcome s p b .state .job ≡ s .job
+unfolding crash-outcome crashes.crash accept
+crashed-job s p true = accepted-job Other s (crashes.crash s p) refl
+crashed-job s p false = refl
+
+played-job : (s : State) (f : Frame) → outcome s f .state .job ≡ s .job → s .job .set ≡ true → play s f .state .job .set ≡ true
+unfolding play
+played-job s f j e = ap (λ j. j .set) (judged-job s (outcome s f) j (questions s f)) ∙ e
+
+set-stays : (s : State) (o : Option Frame) → s .job .set ≡ true → step-before s o .state .job .set ≡ true
+unfolding step-before play-before outcome questions job-questions put-all judged accept checkpoints.checkpoint checkpoints.clean-logs checkpoints.fix-copy checkpoints.prune restarts.restart restarts.restore withdrawals.withdraw withdrawals.take-back
+set-stays s none e = e
+set-stays s (some (job b)) e = rw e
+set-stays s (some (inject c v h)) e = played-job s (inject c v h) (accepted-job Other s (send s 0 c v h) (calm-send s 0 c v h .job)) e
+set-stays s (some (deliver k a r n)) e = played-job s (deliver k a r n) (delivered-job s k a r n (on-wire s k a r n)) e
+set-stays s (some (work c)) e = played-job s (work c) (worked-job s c (next-entry (s .live c))) e
+set-stays s (some (checkpoint p)) e = played-job s (checkpoint p) (accepted-job Other s (checkpoints.checkpoint s p) refl) e
+set-stays s (some (crash p)) e = played-job s (crash p) (crashed-job s p (crashes.has-cover s p)) e
+set-stays s (some (restart p)) e = played-job s (restart p) (accepted-job Other s (restarts.restart s p) refl) e
+set-stays s (some (show c)) e = played-job s (show c) (ap (λ s. s .job) (settled s)) e
+set-stays s (some (withdraw c)) e = played-job s (withdraw c) (accepted-job Other s (withdrawals.withdraw s c) refl) e
+
+-- a line that follows is no job, or is refused
+later : (s : State) (o : Option Frame) → s .job .set ≡ true → MayStay s o ⊎ (o ≡ spelt-frame o)
+unfolding play-before questions job-questions put-all judged spelt-frame spelt
+later s none e = inr refl
+later s (some (job b)) e = inl (refused {b = b} {n = 2} (rw e))
+later s (some (inject c v h)) e = inr refl
+later s (some (deliver k a r n)) e = inr refl
+later s (some (work c)) e = inr refl
+later s (some (checkpoint p)) e = inr refl
+later s (some (crash p)) e = inr refl
+later s (some (restart p)) e = inr refl
+later s (some (show c)) e = inr refl
+later s (some (withdraw c)) e = inr refl
+
+all-stay : (s : State) (ls : List Line) → s .job .set ≡ true → Rewritten s ls ls
+all-stay s [] e = nothing
+all-stay s (l ∷ ls) e =
+    let rest = all-stay (step-before s (frame l) .state) ls (set-stays s (frame l) e) in
+    elim (later s (frame l) e) [ inl m ↦ stays refl m rest | inr q ↦ line q rest ]
+
 pub zero-buddy : ZeroBuddy
-unfolding opened spelt-frame spelt spelt-out spelt-byte by-place next-machine
+unfolding opened spelt-frame spelt spelt-out spelt-byte by-place next-machine step-before play-before begin-before job-before
 zero-buddy = record {
   acceptable = λ b a. record {
     kind = same-kind b ∙ a .kind;
@@ -238,6 +339,8 @@ zero-buddy = record {
   };
   same-job = λ b a. same-job b (a .kind) (a .whole);
   same-answers = λ s ls ks r. same-answers s r;
-  instance = line refl nothing;
+  instance = λ ls. line refl (line refl (all-stay _ ls refl));
+  instance-two = λ ls. stays refl (of-two refl) (all-stay _ ls refl);
+  stored = λ s l k ls e h. line e (all-stay _ ls h);
   two-machines = two-machines;
 }

@@ -43,7 +43,7 @@ returns-3 c =
     let t = c .before .before .before .before .before .before .before .before .before .before .before .before .before .before .before .before .tables in
     let r = c .before .before .resend-all in
     refuse-wire (a .s .now) (st .pre) (a .p) (j .result) (j .ensures) (c .before .before .before .before .before .before .before .before .before .before .before .before .before .before .before .before .before .before .before .if1 .left) _ (t .result) (t .ensures) (not-false _ (c .before .before .before .before .before .before .before .before .before .before .before .before .before .before .if2 .left))
-    _ _ _ (r .result) (c .before .before .before .before .before .before .before .before .before .before .copy-over .ensures) (search needs) (c .before .before .before .before .before .before .after-restart .ensures .items) (r .ensures) (not-true _ (c .if3 .taken))
+    _ _ _ (r .result) (c .before .before .before .before .before .before .before .before .before .before .copy-over .ensures) (search needs) (c .before .before .before .before .before .before .after-restart .ensures .0 .items) (r .ensures .0) (not-true _ (c .if3 .taken))
 
 change-requires : tie.Need-change-requires
 change-requires c κs =
@@ -61,7 +61,7 @@ returns-4 c =
     let t = c .before .before .before .before .before .before .before .before .before .before .before .before .before .before .before .before .before .before .before .before .before .before .tables in
     let r = c .before .before .before .before .before .before .before .before .resend-all in
     accept (a .s .now) (st .pre) (a .p) (j .result) (j .ensures) (c .before .before .before .before .before .before .before .before .before .before .before .before .before .before .before .before .before .before .before .before .before .before .before .before .before .if1 .left) _ (t .result) (t .ensures) (not-false _ (c .before .before .before .before .before .before .before .before .before .before .before .before .before .before .before .before .before .before .before .before .if2 .left))
-    _ _ _ (r .result) (c .before .before .before .before .before .before .before .before .before .before .before .before .before .before .before .before .copy-over .ensures) (search needs) (c .before .before .before .before .before .before .before .before .before .before .before .before .after-restart .ensures .items) (r .ensures) (not-false _ (c .before .before .before .before .before .before .if3 .left))
+    _ _ _ (r .result) (c .before .before .before .before .before .before .before .before .before .before .before .before .before .before .before .before .copy-over .ensures) (search needs) (c .before .before .before .before .before .before .before .before .before .before .before .before .after-restart .ensures .0 .items) (r .ensures .0) (not-false _ (c .before .before .before .before .before .before .if3 .left))
     _ (c .before .before .change .ensures)
 
 pub restart-spec : {M : Type 1} → statement M

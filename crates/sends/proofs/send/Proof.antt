@@ -36,7 +36,7 @@ returns c =
     let f = span (a .a) in
     rw (e, f) (sent-at (a .s .now) (st .pre .0) (a .a) (a .b) (a .value) (a .hops) (a .k) (st .pre .1 .0) (st .pre .1 .1) _ (rw (← l .last-sn .ensures) (m .message-after .ensures))
     (t .take-ticket .last .0) (omega arith) (rw e at (t .take-ticket .ensures)) (g .log-message .last .0) (omega arith) _ (n .tn-of .ensures) (rw (e, f) at (g .log-message .ensures))
-    (p .put .last .0) (omega arith) (rw (e, f) at (p .put .ensures .items)))
+    (p .put .last .0) (omega arith) (rw (e, f) at (p .put .ensures .0 .items)))
 
 pub send-spec : {M : Type 1} → statement M
 send-spec =

@@ -6,7 +6,7 @@ use Rattle.sitting.proofs.end.Tie as tie
 
 -- what was written lies within the buffer
 written : (c : tie.After-finish) → c .finish .result .written ≤ length (c .finish .last .1 .1 .1 .0)
-written c = let same = c .finish .kept .1 .1 .1 .0 in omega (arith, same, ended-fits _ _ _ _ _ (c .finish .ensures) same)
+written c = let same = c .finish .kept .1 .1 .1 .0 in omega (arith, same, ended-fits _ _ _ _ _ _ _ (c .finish .ensures) same)
 
 slice-reshare-prefix-write-all : tie.Need-slice-reshare-prefix-write-all
 slice-reshare-prefix-write-all c = written (c .before .before)

@@ -13,7 +13,7 @@ returns-3 : tie.Need-returns-3
 returns-3 c =
     let e = c .before .before in
     let s = e .before .before .before .before in
-    enter-room _ _ (search needs) _ _ (s .seek .ensures) _ _ (omega arith) (omega arith) (omega arith) (e .enter .ensures)
+    enter-room _ _ (search needs) _ _ (s .seek .ensures) _ _ (omega arith) (omega arith) (omega arith) (e .enter .ensures .0) (e .enter .ensures .1)
 
 pub enter-once-spec : {M : Type 1} → statement M
 enter-once-spec =

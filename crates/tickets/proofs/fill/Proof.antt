@@ -1,27 +1,28 @@
-use Rattle.lists.specs.Basics.{arith, _%_, _≡_, _∙_, ap, needs}
-use Rattle.tickets.specs.{Table.{entry-of, entries}, EntryLaws.{by-name, fitted-fill}}
+use Rattle.lists.specs.Basics.{arith, _%_, _∙_, ap, needs}
 use Rattle.protocol.specs.Tickets.{for-message, fill, filled}
-use Rattle.words.specs.{Becomes.{becomes-same, becomes-mapped}, Mapped.{change-at, change-no}}
+use Rattle.item.specs.Both.{both-changed, both-same}
+use Rattle.tickets.specs.{Table.{entry-of, as-entry, packed, entries}, EntryLaws.{by-name, packed-fill}}
 use Rattle.tickets.proofs.fill.Statement.{statement}
 use Rattle.tickets.proofs.fill.Tie as tie
 
 returns : tie.Need-returns
-unfolding fill filled entries
+unfolding fill filled entries entry-of
 returns c =
     let w = c .before .before in
     let p = w .before in
     let u = p .before .before in
-    let r = u .before in
-    let k = r .before .before .before in
+    let k = u .before .before .before .before in
     let s = k .before .before in
     let a = s .before .before .before .args in
-    let e : u .unpack .result ≡ entry-of _ = u .unpack .ensures ∙ ap entry-of (r .read .ensures) in
-    becomes-mapped entry-of (w .write .ensures)
-    (change-at entry-of _ (for-message _ _) (by-name _ _ (search needs)) _ _ (s .seek .ensures) (fill (a .value) (a .hops % 8)) _ (omega arith) (p .pack .ensures ∙ fitted-fill (a .value) (a .hops) _ _ e))
+    both-changed as-entry (for-message _ _) (fill (a .value) (a .hops % 8)) (λ x. packed (fill (a .value) (a .hops) (as-entry x))) (packed-fill (a .value) (a .hops)) _ (by-name _ _ (search needs)) _ _ (s .seek .ensures) _ (w .write .ensures) (omega arith)
+    (p .pack .ensures ∙ ap (λ e. packed (fill (a .value) (a .hops) e)) (u .unpack .ensures ∙ ap entry-of (u .before .read .ensures)))
 
 returns-2 : tie.Need-returns-2
-unfolding filled entries
-returns-2 c = becomes-same entries _ (change-no entry-of _ (for-message _ _) (by-name _ _ (search needs)) _ _ (c .before .before .before .seek .ensures) _ (omega arith))
+unfolding filled entries entry-of
+returns-2 c =
+    let s = c .before .before .before in
+    let a = s .before .before .before .args in
+    both-same as-entry (for-message _ _) (fill (a .value) (a .hops % 8)) (λ x. packed (fill (a .value) (a .hops) (as-entry x))) (packed-fill (a .value) (a .hops)) _ (by-name _ _ (search needs)) _ _ (s .seek .ensures) (omega arith)
 
 pub fill-spec : {M : Type 1} → statement M
 fill-spec =

@@ -1,5 +1,5 @@
 use Rattle.lists.specs.Basics.{_≡_, needs}
-use Rattle.tickets.specs.EntryLaws.{entry-says}
+use Rattle.tickets.specs.EntryLaws.{item-says}
 use Rattle.words.specs.Fields.{bit}
 use Rattle.tickets.proofs.pack.Statement.{statement}
 use Rattle.tickets.proofs.pack.Tie as tie
@@ -10,7 +10,7 @@ returns c =
     let e = d .before .before .args .e in
     let a : d .before .bit .result ≡ bit (e .received) = d .before .bit .ensures .0 in
     let b : d .bit2 .result ≡ bit (e .noted) = d .bit2 .ensures .0 in
-    entry-says _ _ e (c .pack .ensures) (rw (a, b))
+    item-says _ _ e (c .pack .ensures) (rw (a, b))
 
 pub pack-spec : {M : Type 1} → statement M
 pack-spec =

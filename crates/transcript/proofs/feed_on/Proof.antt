@@ -86,7 +86,7 @@ loop-holds c = (search needs, search needs, search needs, search needs, nothing-
 returns : at tie.Need-returns
 returns c =
     let l = c .before .loop in
-    fed _ _ (opened (c .before)) _ _ _ _ _ _ _ _ (l .inv .4) (no-room _ _ _ _ _ _ _ (l .inv .4) (omega (arith, c .if1 .taken, l .inv .3)))
+    fed _ _ (opened (c .before)) _ _ _ _ _ _ _ _ (l .inv .4) (no-room _ _ _ _ _ _ _ (l .inv .4) (omega (arith, c .if1 .taken, l .inv .3))) (l .inv .2) (l .inv .1)
 
 add-end : at tie.Need-add-end
 add-end c = omega (arith, there c, start (c .before .before .before) .good)
@@ -101,7 +101,7 @@ returns-2 c =
     let p = e .before .before .before in
     let l = p .loop in
     let inv = fed-stop _ _ _ _ _ _ _ _ (l .inv .4) (roomy (e .before .before)) _ (kept k) _ (is-end e) (c .if2 .taken) in
-    fed _ _ (opened p) _ _ _ _ _ _ _ _ inv (at-end _ _ _ _ _ _ _ inv (c .if2 .taken))
+    fed _ _ (opened p) _ _ _ _ _ _ _ _ inv (at-end _ _ _ _ _ _ _ inv (c .if2 .taken)) (kept-len k) (kept-long k)
 
 slice-aggregate-step-on : at tie.Need-slice-aggregate-step-on
 slice-aggregate-step-on c = kept-count (kept-place (c .before .before))

@@ -28,7 +28,7 @@ add-t12 c =
     let f = e .before .before .before .before .before .before .before .before in
     let w = f .feed .result .written in
     let out = f .feed .last .1 .1 .1 .1 .0 in
-    let g : e .finish .result .written ≤ length (take (length out - w) (drop w out)) = ended-fits _ _ _ _ _ (e .finish .ensures) (e .finish .kept .1 .1 .1 .0) in
+    let g : e .finish .result .written ≤ length (take (length out - w) (drop w out)) = ended-fits _ _ _ _ _ _ _ (e .finish .ensures) (e .finish .kept .1 .1 .1 .0) in
     omega (arith, g, fed-within f, length-take (length out - w) (drop w out), f .feed .kept .1 .1 .1 .1 .0, start f .good)
 
 returns-2 : tie.Need-returns-2
@@ -36,7 +36,7 @@ returns-2 c =
     let e = c .before .before .before in
     let x = e .before .before .before .before in
     let f = x .before .before .before .before in
-    whole-long _ _ _ _ _ _ (fed f) (x .if1 .left) _ _ _ (e .finish .ensures)
+    whole-long _ _ _ _ _ _ (fed f) (x .if1 .left) _ _ _ _ (e .finish .ensures)
 
 pub whole-spec : {M : Type 1} → statement M
 whole-spec =

@@ -23,7 +23,7 @@ returns c =
     let k = r .before .before in
     let st = k .before .before in
     let a = st .args in
-    forgotten-put (a .m .now) (r .remove .last .0) (st .pre .0) (omega arith) (a .c) (a .n) (k .previous .result) (st .pre .1) (search needs) (k .previous .ensures) (r .remove .ensures .items)
+    forgotten-put (a .m .now) (r .remove .last .0) (st .pre .0) (omega arith) (a .c) (a .n) (k .previous .result) (st .pre .1) (search needs) (k .previous .ensures) (r .remove .ensures .0 .items)
 
 pub forget-spec : {M : Type 1} → statement M
 forget-spec =

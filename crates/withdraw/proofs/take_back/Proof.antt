@@ -10,7 +10,7 @@ returns c =
     let f = w .before .before .before .before in
     let st = f .before .before .before in
     let a = st .args in
-    taken-back (a .s .now) (st .pre .0) (a .c) (a .n) (f .forget .last .0) (omega arith) (f .forget .ensures) (w .leave-all .last .0) (omega arith) (w .leave-all .ensures .items)
+    taken-back (a .s .now) (st .pre .0) (a .c) (a .n) (f .forget .last .0) (omega arith) (f .forget .ensures) (w .leave-all .last .0) (omega arith) (w .leave-all .ensures .0 .items)
 
 pub take-back-spec : {M : Type 1} → statement M
 take-back-spec =

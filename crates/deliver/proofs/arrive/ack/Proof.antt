@@ -13,7 +13,7 @@ returns c =
     let t = c .before .before in
     let st = t .before .before .before in
     let a = st .args in
-    ap (quiet Other) (table-changed (a .m .now) (t .note .last .0) (st .pre) (omega arith) (change1 (for-message (a .sender) (a .sn)) mark-noted) (t .note .ensures .items))
+    ap (quiet Other) (table-changed (a .m .now) (t .note .last .0) (st .pre) (omega arith) (change1 (for-message (a .sender) (a .sn)) mark-noted) (t .note .ensures .0 .items))
 
 pub ack-spec : {M : Type 1} → statement M
 ack-spec =

@@ -107,7 +107,7 @@ returns-6 c =
     let z : length (part TABLE ROW (a .m .now)) - 1 ≡ 16 = omega (arith, part-length TABLE ROW (a .m .now) (omega (arith, size))) in
     let room : length (memory-view (a .m .now) .table) < table-room = rw table-part (omega (arith, n .count .ensures)) in
     replying (a .m .now) _ _ _ (c .accepted3 .ensures)
-    (ap (λ m. ok (answering AskNew m (GRANT-new (t .next-tn .result)))) (table-changed (a .m .now) (x .enter .last .0) size (omega arith) (λ l. push 16 l (unreceived (a .sender) (a .sn) (t .next-tn .result))) (rw (z, mod-eq-of-lt (start-of w .pre .1)) at (x .enter .ensures .items)))
+    (ap (λ m. ok (answering AskNew m (GRANT-new (t .next-tn .result)))) (table-changed (a .m .now) (x .enter .last .0) size (omega arith) (λ l. push 16 l (unreceived (a .sender) (a .sn) (t .next-tn .result))) (rw (z, mod-eq-of-lt (start-of w .pre .1)) at (x .enter .ensures .0 .items)))
     ∙ ap ok (entered _ _ _ (tn-at t) room)
     ∙ ask-new _ _ _ (tn-at t) (w .before .seen .ensures) (no-entry w) (not-worked (else-of t))
     (le-leb (t .next-tn .result) number-limit (omega arith)) (sym (d .admitted .ensures) ∙ not-false _ (n .before .before .before .if3 .left)) (lt-ltb _ table-room room))

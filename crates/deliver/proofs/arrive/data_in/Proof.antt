@@ -17,7 +17,7 @@ returns c =
     let st = k .before .before .before .before in
     let a = st .args in
     let e = ap (λ l. entry l (a .sender) (a .sn)) (table-part (a .m .now)) ∙ sym (k .find .ensures) ∙ ap found-entry (x .e .given .1) in
-    ap (quiet DataFilled) (table-changed (a .m .now) (t .fill .last .0) (st .pre) (omega arith) (filled (a .sender) (a .sn) (a .value) (a .hops % 8)) (t .fill .ensures .items))
+    ap (quiet DataFilled) (table-changed (a .m .now) (t .fill .last .0) (st .pre) (omega arith) (filled (a .sender) (a .sn) (a .value) (a .hops % 8)) (t .fill .ensures .0 .items))
     ∙ rw (e, not-true (x .e .given .0 .0 .received) (i .if1 .taken))
 
 returns-2 : tie.Need-returns-2

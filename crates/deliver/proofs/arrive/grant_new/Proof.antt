@@ -22,7 +22,7 @@ returns-2 c =
     let st = k .before .before .before .before in
     let a = st .args in
     let v = x .x .given .0 .0 in
-    ap (λ m. answering GrantNew m (DATA (v .value) (v .hops))) (log-changed (a .m .now) (t .set-ticket .last .0) (st .pre) (omega arith) (ticketed (a .receiver) (a .sn) (a .tn)) (t .set-ticket .ensures .items))
+    ap (λ m. answering GrantNew m (DATA (v .value) (v .hops))) (log-changed (a .m .now) (t .set-ticket .last .0) (st .pre) (omega arith) (ticketed (a .receiver) (a .sn) (a .tn)) (t .set-ticket .ensures .0 .items))
     ∙ rw (log-part, ← k .lookup .ensures, x .x .given .1)
 
 pub grant-new-spec : {M : Type 1} → statement M

@@ -22,7 +22,7 @@ returns-2 c =
     let k = x .before .before in
     let st = k .before .before .before .before in
     let a = st .args in
-    ap (quiet GrantOld) (log-changed (a .m .now) (t .remove .last .0) (st .pre) (omega arith) (remove1 (for-receiver (a .receiver) (a .sn))) (t .remove .ensures .items))
+    ap (quiet GrantOld) (log-changed (a .m .now) (t .remove .last .0) (st .pre) (omega arith) (remove1 (for-receiver (a .receiver) (a .sn))) (t .remove .ensures .0 .items))
     ∙ rw (log-part, ← k .lookup .ensures, x .enum-told .given .1)
 
 pub grant-old-spec : {M : Type 1} → statement M

@@ -21,7 +21,7 @@ returns-2 c =
     let k = x .before .before in
     let st = k .before .before .before .before in
     let a = st .args in
-    ap (quiet GrantReceived) (log-changed (a .m .now) (t .set-ticket .last .0) (st .pre) (omega arith) (ticketed (a .receiver) (a .sn) (a .tn)) (t .set-ticket .ensures .items))
+    ap (quiet GrantReceived) (log-changed (a .m .now) (t .set-ticket .last .0) (st .pre) (omega arith) (ticketed (a .receiver) (a .sn) (a .tn)) (t .set-ticket .ensures .0 .items))
     ∙ rw (log-part, ← k .lookup .ensures, x .enum-told .given .1)
 
 pub grant-received-spec : {M : Type 1} → statement M

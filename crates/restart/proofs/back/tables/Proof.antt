@@ -20,7 +20,7 @@ returns c =
     let l = c .before .before .before .before .before .before .before .before .loop in
     let b = c .before .before .before .build in
     let here = home-at (a .s .now) (a .p) (l .n) _ _ (c .before .before .before .before .before .before .on .ensures) (c .before .before .before .before .before .if1 .taken) in
-    going-stop (view (a .s .now)) (a .p) (l .n) (l .rows) (l .inv .3) (omega arith) here (b .result) _ (b .ensures) (not-true _ (c .if2 .taken)) _
+    going-stop (view (a .s .now)) (a .p) (l .n) (l .rows) (l .inv .3) (omega arith) here (b .result) _ (b .ensures .0) (not-true _ (c .if2 .taken)) _
 
 loop-again : tie.Need-loop-again Inv-loop μ-loop
 loop-again c =
@@ -31,7 +31,7 @@ loop-again c =
       search needs,
       search needs,
       search needs,
-      going-more (view (a .s .now)) (a .p) (l .n) (l .rows) (l .inv .3) (omega arith) here (b .result) _ (b .ensures) (not-false _ (c .if2 .left)) (l .inv .2) (omega arith),
+      going-more (view (a .s .now)) (a .p) (l .n) (l .rows) (l .inv .3) (omega arith) here (b .result) _ (b .ensures .0) (not-false _ (c .if2 .left)) (l .inv .2) (omega arith),
     )
 
 loop-again-2 : tie.Need-loop-again-2 Inv-loop μ-loop

@@ -4,7 +4,11 @@ use Rattle.restart.proofs.resend.resend_sorted.Statement.{statement}
 use Rattle.restart.proofs.resend.resend_sorted.Tie as tie
 
 returns : tie.Need-returns
-returns c = c .before .before .resend-log .ensures ∙ rw (c .before .before .before .before .before .before .sort .ensures .items, c .before .before .before .before .before .before .before .before .before .copy-over .ensures)
+returns c =
+    let r = c .before .before .resend-log in
+    let k = c .before .before .before .before .before .before in
+    let e = k .before .before .before .copy-over .ensures in
+    (r .ensures .0 ∙ rw (k .sort .ensures .0 .items, e), r .ensures .1 ∙ rw (k .sort .ensures .0 .items, e))
 
 pub resend-sorted-spec : {M : Type 1} → statement M
 resend-sorted-spec =

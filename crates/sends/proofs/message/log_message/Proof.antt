@@ -19,7 +19,7 @@ returns : tie.Need-returns
 returns c =
     let p = c .before .before in
     let a = p .before .before .before .before .before .args in
-    logged-put (a .x .now) (p .push .last .0) (search needs) (omega arith) (a .m) (a .tn) (record { sender = omega arith; receiver = omega arith; sn = search needs; value = search needs; hops = omega arith }) (p .push .ensures .items)
+    logged-put (a .x .now) (p .push .last .0) (search needs) (omega arith) (a .m) (a .tn) (record { sender = omega arith; receiver = omega arith; sn = search needs; value = search needs; hops = omega arith }) (p .push .ensures .0 .items)
 
 pub log-message-spec : {M : Type 1} → statement M
 log-message-spec =

@@ -12,7 +12,7 @@ returns-2 c =
     let f = c .before .before in
     let t = f .before .before in
     let a = t .before .before .before .args in
-    rw (t .enum-told2 .given .1) (ticket-found (a .y .now) (f .fill .last .0) (search needs) (omega arith) (a .m) _ (search needs) (f .fill .ensures .items))
+    rw (t .enum-told2 .given .1) (ticket-found (a .y .now) (f .fill .last .0) (search needs) (omega arith) (a .m) _ (search needs) (f .fill .ensures .0 .items))
 
 returns-3 : tie.Need-returns-3
 returns-3 c =
@@ -20,7 +20,7 @@ returns-3 c =
     let t = f .before .before .before in
     let a = t .before .before .before .args in
     unfold local-entry in
-    rw (t .k .given .1) (ticket-new (a .y .now) (f .push .last .0) (search needs) (omega arith) (a .m) _ (search needs) (search needs) (f .push .ensures .items))
+    rw (t .k .given .1) (ticket-new (a .y .now) (f .push .last .0) (search needs) (omega arith) (a .m) _ (search needs) (search needs) (f .push .ensures .0 .items))
 
 returns-4 : tie.Need-returns-4
 returns-4 c = unfold table-by in rw (c .enum-told3 .given .1)

@@ -1,27 +1,48 @@
 //! Writes random lists of frames, those that an examiner asks for, or the long lists that end in answer 07.
 
-use reference::exam::{wished, Event, Wish, TRIES};
+use explained::names::joined;
+use explained::notation::decode;
+use reference::exam::{wished, Wish, TRIES};
 use reference::generator::list;
 use reference::limits::{MAX_CHARES, MAX_MACHINES, MIN_MACHINES};
 use reference::long::{limit_list, Limit};
+use reference::promise::{Promise, HARD};
 use std::io::Write;
 use std::ops::RangeInclusive;
 use std::path::Path;
 use std::process::ExitCode;
 
 const USAGE: &str = "\
-lists [OPTIONS] SEED            a list for an exam, the same for the same seed
-  --machines M                  2 to 6 machines
-  --chares C                    1 to 12 chares
-  --frames N                    so many frames, 40 if it is not said; fewer if the run is lost
-  --with crash,restart,hole,ff,withdraw
-                                what has to happen: a crash with cover, a restart, a restart that
-                                leaves a hole, a crash without cover (else the run is not lost),
-                                a withdrawal
-  --clean                       no garbled frame and none out of range: no 01, 02 or 03
-lists SEED FRAMES               one random list, of any kind
-lists FOLDER SEED COUNT FRAMES  COUNT of them, of seeds SEED and up, as FOLDER/SEED.in
-lists limit NAME                a long list that ends in 07; NAME is injection, ask, local or sent
+tools/lists [OPTIONS] SEED            a list for an exam, the same for the same seed
+  --machines M        2 to 6 machines
+  --chares C          1 to 12 chares
+  --frames N          so many frames, 40 if it is not said, 60 with --difficulty; fewer if the run
+                      is lost
+  --with NAME,...     what has to happen:
+                        crash           a crash with cover
+                        restart         a restart
+                        hole            a restart that leaves a hole
+                        ff              a crash without cover (else the run is not lost)
+                        withdraw        a withdrawal
+                        grant-lost      a crash with cover takes a GRANT off the wire that a chare
+                                        of the machine gave
+                        old             a GRANT old arrives (00E): the message was worked before
+                        ff-catching-up  a crash without cover while another machine is catching up
+  --difficulty D      1 to 4, by what has to happen: 1 grant-lost, 2 hole too, 3 old too,
+                      4 ff-catching-up too; what makes a higher one does not happen unless --with
+                      asks for it
+  --clean             no garbled frame and none out of range: no 01, 02 or 03
+  --shows             after these frames a show of each chare; each is answered with height and
+                      state, and one chare at least has worked; if the run is lost, they get 04
+  --small-values      every injected value is from 1 to 9
+  --words             in words, as tools/satuphir decode gives them, not in digits
+tools/lists SEED FRAMES               one random list, of any kind
+tools/lists FOLDER SEED COUNT FRAMES  COUNT of them, of seeds SEED and up, as FOLDER/SEED.in
+tools/lists limit NAME                a long list that ends in 07; NAME is injection, ask, local or
+                                      sent
+
+Lists are tried until one is as asked for. If of 200000 none is, that is said, with status 1.
+Status 2 is a bad call.
 ";
 
 /// Why there is no list.
@@ -56,23 +77,25 @@ fn within(word: &str, what: &str, range: RangeInclusive<usize>) -> Result<usize,
     }
 }
 
-fn events(word: &str) -> Result<Vec<Event>, Failure> {
-    let event = |name: &str| match Event::ALL.into_iter().find(|event| event.name() == name) {
-        Some(event) => Ok(event),
+fn promises(word: &str) -> Result<Vec<Promise>, Failure> {
+    let promise = |name: &str| match Promise::ALL.into_iter().find(|one| one.name() == name) {
+        Some(promise) => Ok(promise),
         None => usage(format!(
-            "--with has no \"{name}\": crash, restart, hole, ff or withdraw"
+            "--with has no \"{name}\", only {}",
+            joined(&Promise::ALL.map(|one| one.name().to_string()))
         )),
     };
-    word.split(',').map(event).collect()
+    word.split(',').map(promise).collect()
 }
+
+/// The frames of a list for which no number is given.
+const FRAMES: usize = 40;
+const FRAMES_IF_DIFFICULT: usize = 60;
 
 /// A list that is asked for with options.
 fn wish(args: &[&str]) -> Result<(), Failure> {
-    let mut wish = Wish {
-        frames: 40,
-        ..Wish::default()
-    };
-    let mut seed = None;
+    let mut wish = Wish::default();
+    let (mut seed, mut frames, mut difficulty, mut words) = (None, None, None, false);
     let mut args = args.iter();
     while let Some(&arg) = args.next() {
         let mut value = || match args.next() {
@@ -81,12 +104,16 @@ fn wish(args: &[&str]) -> Result<(), Failure> {
         };
         match arg {
             "--machines" => {
-                wish.machines = Some(within(value()?, "--machines", MIN_MACHINES..=MAX_MACHINES)?)
+                wish.machines = Some(within(value()?, arg, MIN_MACHINES..=MAX_MACHINES)?)
             }
-            "--chares" => wish.chares = Some(within(value()?, "--chares", 1..=MAX_CHARES)?),
-            "--frames" => wish.frames = within(value()?, "--frames", 1..=1_000_000)?,
-            "--with" => wish.with = events(value()?)?,
+            "--chares" => wish.chares = Some(within(value()?, arg, 1..=MAX_CHARES)?),
+            "--frames" => frames = Some(within(value()?, arg, 1..=1_000_000)?),
+            "--with" => wish.with = promises(value()?)?,
+            "--difficulty" => difficulty = Some(within(value()?, arg, 1..=HARD.len())?),
             "--clean" => wish.clean = true,
+            "--shows" => wish.shows = true,
+            "--small-values" => wish.small_values = true,
+            "--words" => words = true,
             _ if arg.starts_with('-') => return usage(format!("there is no option \"{arg}\"")),
             _ if seed.is_some() => return usage(format!("\"{arg}\" is too much")),
             _ => seed = Some(number(arg, "seed")?),
@@ -95,7 +122,18 @@ fn wish(args: &[&str]) -> Result<(), Failure> {
     let Some(seed) = seed else {
         return usage("a seed is needed".to_string());
     };
+    wish.frames = frames.unwrap_or(match difficulty {
+        None => FRAMES,
+        Some(_) => FRAMES_IF_DIFFICULT,
+    });
+    if let Some(difficulty) = difficulty {
+        let (with, without) = HARD.split_at(difficulty);
+        let spared = without.iter().filter(|one| !wish.with.contains(one));
+        wish.without = spared.copied().collect();
+        wish.with.extend(with);
+    }
     match wished(&wish, seed) {
+        Some(list) if words => print(decode(&list).as_bytes()),
         Some(list) => print(&list),
         None => Err(Failure::Other(format!(
             "of {TRIES} lists none is like that: ask for more frames, or for less to happen"
@@ -139,7 +177,7 @@ fn main() -> ExitCode {
     match run(&args) {
         Ok(()) => ExitCode::SUCCESS,
         Err(Failure::Usage(message)) => {
-            eprint!("lists: {message}\n{USAGE}");
+            eprintln!("lists: {message}\nlists: `tools/lists --help` says how it is called");
             ExitCode::from(2)
         }
         Err(Failure::Other(message)) => {

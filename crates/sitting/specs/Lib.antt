@@ -1,0 +1,2 @@
+-- What the contracts of sitting say.
+pub mod Turns

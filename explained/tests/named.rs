@@ -1,0 +1,214 @@
+//! Every file, command and definition that the documents name is there.
+
+mod common;
+
+use common::documents::document;
+use common::named::{meant, repository, stands, Pieces};
+use common::run::run;
+use std::process::Command;
+
+/// The repository, and what is looked for in it.
+struct Look {
+    repository: Vec<String>,
+    /// What was looked at, and what of it is not there.
+    named: usize,
+    missing: Vec<String>,
+}
+
+impl Look {
+    fn new() -> Look {
+        Look {
+            repository: repository(),
+            named: 0,
+            missing: Vec::new(),
+        }
+    }
+
+    fn note(&mut self, is_there: bool, name: &str) {
+        self.named += 1;
+        if !is_there {
+            self.missing.push(name.to_string());
+        }
+    }
+
+    fn files(&mut self, text: &str) {
+        for path in Pieces::of(text).paths() {
+            // One stands for any name, the other is built.
+            if !path.contains("NAME") && !path.contains("target/") {
+                self.note(!meant(&self.repository, path).is_empty(), path);
+            }
+        }
+    }
+
+    /// Files that are named without their folder.
+    fn names_of_files(&mut self, text: &str) {
+        let ends = [".antt", ".rt", ".rs", ".sh", ".md", ".edit", ".toml"];
+        for word in Pieces::of(text).code() {
+            let is_file = ends.iter().any(|end| word.ends_with(end));
+            if is_file && !word.contains([' ', '/', '*']) {
+                self.note(!meant(&self.repository, word).is_empty(), word);
+            }
+        }
+    }
+
+    /// Each name stands in one of the files that are named with it.
+    fn definitions(&mut self, text: &str) {
+        for (names, files) in Pieces::of(text).definitions() {
+            let is_source = |path: &&str| path.ends_with(".antt") || path.ends_with(".rt");
+            let paths = files.iter().flat_map(|file| meant(&self.repository, file));
+            let texts: Vec<String> = paths.filter(is_source).map(document).collect();
+            if texts.is_empty() {
+                continue;
+            }
+            for name in names {
+                let own = name.rsplit("::").next().unwrap_or(name);
+                let is_there = texts.iter().any(|text| stands(text, own));
+                self.note(is_there, &format!("{name} in {}", files.join(", ")));
+            }
+        }
+    }
+
+    /// `crate::function` stands in that crate's code.
+    fn functions(&mut self, text: &str) {
+        for word in Pieces::of(text).code() {
+            let Some((folder, function)) = word.split_once("::") else {
+                continue;
+            };
+            let start = format!("crates/{folder}/src/");
+            let code = self.repository.iter().filter(|p| p.starts_with(&start));
+            let code: Vec<String> = code.filter(|p| p.ends_with(".rt")).cloned().collect();
+            if !code.is_empty() {
+                let is_there = code.iter().any(|path| stands(&document(path), function));
+                self.note(is_there, word);
+            }
+        }
+    }
+
+    /// Words after these: subcommands of the command, crates after a command of the toolchain.
+    fn after(&mut self, text: &str, command: &str, known: &[String]) {
+        let text = text.split_whitespace().collect::<Vec<_>>().join(" ");
+        for rest in text.split(&format!("{command} ")).skip(1) {
+            let end = rest.find(|c: char| !c.is_ascii_lowercase());
+            let word = &rest[..end.unwrap_or(rest.len())];
+            if !word.is_empty() {
+                let is_there = known.iter().any(|name| name == word);
+                self.note(is_there, &format!("{command} {word}"));
+            }
+        }
+    }
+
+    /// The options that are named stand in one of these helps.
+    fn options(&mut self, text: &str, helps: &[String]) {
+        for word in text.split(|c: char| !(c.is_ascii_lowercase() || c == '-')) {
+            if word.starts_with("--") && word.len() > 3 && !word.ends_with('-') {
+                let is_there = helps.iter().any(|help| stands(help, word));
+                self.note(is_there, word);
+            }
+        }
+    }
+}
+
+/// README and everything in docs, with their texts.
+fn documents() -> Vec<(String, String)> {
+    let is_document =
+        |path: &String| path == "README.md" || path.starts_with("docs/") && path.ends_with(".md");
+    let names = repository().into_iter().filter(is_document);
+    names.map(|name| (name.clone(), document(&name))).collect()
+}
+
+/// Looks through documents: all that they name is there, and they name so much at least.
+fn all_there(documents: &[(String, String)], least: usize, look_at: impl Fn(&mut Look, &str)) {
+    let mut look = Look::new();
+    let mut wrong = Vec::new();
+    for (name, text) in documents {
+        look_at(&mut look, text);
+        wrong.extend(look.missing.drain(..).map(|what| format!("{name}: {what}")));
+    }
+    assert!(wrong.is_empty(), "not there: {wrong:#?}");
+    assert!(look.named >= least, "{} names", look.named);
+}
+
+#[test]
+fn files() {
+    let mut all = documents();
+    for folder in ["explained", "examples", "reference"] {
+        let name = format!("{folder}/README.md");
+        all.push((name.clone(), document(&name)));
+    }
+    all_there(&all, 200, Look::files);
+    all_there(&documents(), 20, Look::names_of_files);
+}
+
+#[test]
+fn definitions() {
+    all_there(&documents(), 80, Look::definitions);
+    all_there(&documents(), 10, Look::functions);
+}
+
+fn help_of_lists() -> String {
+    let output = Command::new(env!("CARGO_BIN_EXE_lists"))
+        .arg("--help")
+        .output();
+    String::from_utf8(output.expect("a run").stdout).expect("text")
+}
+
+#[test]
+fn commands() {
+    let helps = [run(&["--help"]).1, help_of_lists()];
+    let calls = helps[0]
+        .lines()
+        .filter_map(|line| line.strip_prefix("tools/satuphir "));
+    let subcommands: Vec<String> = calls
+        .filter_map(|call| call.split(' ').next())
+        .map(str::to_string)
+        .collect();
+    all_there(&documents(), 20, |look, text| {
+        look.after(text, "tools/satuphir", &subcommands);
+    });
+    all_there(&documents(), 10, |look, text| look.options(text, &helps));
+    let crates: Vec<String> = document("crates.txt")
+        .lines()
+        .filter_map(|line| Some(line.split_once(':')?.0.to_string()))
+        .collect();
+    all_there(&documents(), 2, |look, text| {
+        for command in ["rt check", "rt must-fail", "rt staticlib"] {
+            look.after(text, command, &crates);
+        }
+    });
+}
+
+/// What is not there is noticed, whichever way it is named.
+#[test]
+fn what_is_not_there() {
+    let missing = |text: &str, look_at: fn(&mut Look, &str)| {
+        let mut look = Look::new();
+        look_at(&mut look, text);
+        look.missing
+    };
+    for text in [
+        "see `crates/engine/src/none.rt`",
+        "(docs/NONE.md), and so on",
+        "`tools/none.sh LIST` does it",
+        "the edit `engine/no_such_edit`",
+        "`Recovery/None.antt`",
+    ] {
+        assert_eq!(missing(text, Look::files).len(), 1, "{text}");
+    }
+    assert_eq!(missing("`None.antt`", Look::names_of_files), ["None.antt"]);
+    for text in [
+        "(`none` in crates/transcript/specs/View.antt)",
+        "`none` in `crates/transcript/specs/View.antt`",
+        "`reading`, `none` and\n`Feeding` (`crates/transcript/specs/View.antt`, too)",
+        "| `none` | `crates/transcript/specs/View.antt` | of a reader |",
+        // No part of a name is one.
+        "`readin` in crates/transcript/specs/View.antt",
+    ] {
+        assert_eq!(missing(text, Look::definitions).len(), 1, "{text}");
+    }
+    assert_eq!(missing("`engine::none`", Look::functions), ["engine::none"]);
+    let known = ["play".to_string()];
+    let mut look = Look::new();
+    look.after("`tools/satuphir\nply LIST`", "tools/satuphir", &known);
+    look.options("`--quikc`", &["--quick".to_string()]);
+    assert_eq!(look.missing, ["tools/satuphir ply", "--quikc"]);
+}
