@@ -1,5 +1,5 @@
-//! With the feature `engine`: links the proved engine, a static library, and sets the configuration `library`, here and in the packages
-//! that build on this one. Where there is no such file, what needs it is left out with a word.
+//! With the feature `engine`: links the proved engine, a static library, and tells packages that build on this one that it is there.
+//! Without that file they can do without the engine, and what calls it does not link.
 
 use std::env;
 use std::path::PathBuf;
@@ -7,7 +7,6 @@ use std::path::PathBuf;
 fn main() {
     println!("cargo:rerun-if-changed=build.rs");
     println!("cargo:rerun-if-env-changed=SATUPHIR_LIB");
-    println!("cargo:rustc-check-cfg=cfg(library)");
     if env::var_os("CARGO_FEATURE_ENGINE").is_none() {
         return;
     }
@@ -22,7 +21,7 @@ fn main() {
     println!("cargo:rerun-if-changed={}", library.display());
     if !library.is_file() {
         println!(
-            "cargo:warning=no library {}: what needs the proved engine is left out; write it with \
+            "cargo:warning=no library {}: there is no proved engine here; write it with \
              `rt staticlib satuphir`, or name its folder in SATUPHIR_LIB",
             library.display()
         );
@@ -30,6 +29,5 @@ fn main() {
     }
     println!("cargo:rustc-link-search=native={}", folder.display());
     println!("cargo:rustc-link-lib=static=satuphir");
-    println!("cargo:rustc-cfg=library");
     println!("cargo:library=linked");
 }

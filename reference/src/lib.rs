@@ -62,5 +62,5 @@ pub mod reuse;
 pub mod run;
 
 // The proved engine, to compare with.
-#[cfg(library)]
+#[cfg(feature = "engine")]
 pub mod engine;
