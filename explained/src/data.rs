@@ -11,7 +11,7 @@ use reference::state::State;
 
 /// What every answer begins with: who made it, whose lines it has, from which list.
 pub struct Source<'a> {
-    pub given: &'a [u8],
+    pub digits: &'a [u8],
     pub quick: bool,
     pub places: &'a Places,
 }
@@ -38,7 +38,7 @@ impl Source<'_> {
         let head = [
             ("version", quoted(version::VERSION)),
             ("engine", quoted(version::engine(self.quick))),
-            ("list", quoted(&version::hash(self.given))),
+            ("list", quoted(&version::hash(self.digits))),
         ];
         object(&[&head, fields].concat()) + "\n"
     }
@@ -60,15 +60,17 @@ impl Source<'_> {
     }
 
     /// Every frame with its line.
-    pub fn play(&self, input: &[u8], engine: &[u8]) -> Result<String, Difference> {
+    pub fn play(&self, engine: &[u8]) -> Result<String, Difference> {
         let mut frames = Vec::new();
-        play(input, engine, |step| frames.push(object(&self.frame(step))))?;
+        play(self.digits, engine, |step| {
+            frames.push(object(&self.frame(step)))
+        })?;
         Ok(self.with(&[("frames", listed(frames))]))
     }
 
     /// All that stands after a frame.
-    pub fn state(&self, input: &[u8], engine: &[u8], number: usize) -> Result<String, Wrong> {
-        state::at(input, engine, number, |step| {
+    pub fn state(&self, engine: &[u8], number: usize) -> Result<String, Wrong> {
+        state::at(self.digits, engine, number, |step| {
             let (head, sections) = match step {
                 Some(step) => (self.frame(step), compared(step.before, step.after)),
                 None => {
@@ -86,8 +88,8 @@ impl Source<'_> {
     }
 
     /// What would be accepted next, and what would not.
-    pub fn next(&self, input: &[u8], engine: &[u8], after: Option<usize>) -> Result<String, Wrong> {
-        let moment = Moment::new(input, engine, after)?;
+    pub fn next(&self, engine: &[u8], after: Option<usize>) -> Result<String, Wrong> {
+        let moment = Moment::new(self.digits, engine, after)?;
         let lost_at = match moment.lost_at {
             Some(frame) => frame.to_string(),
             None => "null".to_string(),

@@ -22,7 +22,9 @@ pub mod ahead;
 pub mod state;
 
 pub mod data;
+pub mod handout;
 pub mod page;
+pub mod paper;
 pub mod picture;
 pub mod table;
 

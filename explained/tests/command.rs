@@ -3,7 +3,7 @@
 mod common;
 
 use common::run::{fed, fresh, run};
-use common::{drawn, explained, folder, list};
+use common::{explained, folder, list, made_by, written};
 use explained::notation::decode;
 use reference::reader::answer_all;
 use std::fs;
@@ -139,7 +139,7 @@ fn explain_gives_a_picture_too() {
     let report = explained(&list(NAME));
     assert_eq!((status, said), (0, report.text));
     said_nothing(&error);
-    assert!(fs::read_to_string(out).expect("a picture") == drawn(NAME, &report.story));
+    assert!(fs::read_to_string(out).expect("a picture") == written(NAME, &list(NAME)));
 }
 
 /// Options may stand after the list, and before the subcommand.
@@ -174,11 +174,20 @@ fn picture_and_its_pages() {
     };
     let (status, out, error) = run(&args(&[]));
     assert_eq!((status, out.as_str(), error.as_str()), (0, "", ""));
-    let story = explained(&list(name)).story;
-    assert!(fs::read_to_string(at("out.svg")).expect("a picture") == drawn(name, &story));
+    assert!(fs::read_to_string(at("out.svg")).expect("a picture") == written(name, &list(name)));
     assert_eq!(run(&args(&["--pages"])).0, 0);
-    let there: Vec<PathBuf> = ["out-1.svg", "out-2.svg"].map(at).to_vec();
-    assert!(there.iter().all(|file| file.is_file()) && !at("out-3.svg").exists());
+    let there: Vec<PathBuf> = (1..=3).map(|n| at(&format!("out-{n}.svg"))).collect();
+    assert!(there.iter().all(|file| file.is_file()) && !at("out-4.svg").exists());
+    // Each says what made it; beside them is one file with all, to print.
+    let says = |file: &PathBuf| {
+        fs::read_to_string(file)
+            .expect("a sheet")
+            .contains(&made_by(&list(name)))
+    };
+    assert!(there.iter().all(says));
+    let all = fs::read_to_string(at("out-print.html")).expect("a file to print");
+    assert_eq!(all.matches("<div class=\"sheet\">").count(), 3);
+    assert!(all.contains("@page { size: A4 landscape;"));
 }
 
 #[test]
@@ -280,9 +289,10 @@ fn page_is_written() {
     let out = fresh("page").join("out.html");
     let (status, said, error) = run(&["page", &file(NAME), out.to_str().expect("a name")]);
     assert_eq!((status, said.as_str(), error.as_str()), (0, "", ""));
-    assert!(fs::read_to_string(out)
-        .expect("a page")
-        .starts_with("<!DOCTYPE html>"));
+    let page = fs::read_to_string(out).expect("a page");
+    assert!(page.starts_with("<!DOCTYPE html>"));
+    // On the screen and on paper.
+    assert!(page.matches(&made_by(&list(NAME))).count() >= 2);
 }
 
 /// Every run with `--quick` says that its lines are not the proved engine's.
@@ -290,17 +300,15 @@ fn page_is_written() {
 #[cfg_attr(not(library), ignore = "needs the engine's library")]
 fn quick_says_so() {
     let folder = fresh("quick");
-    let (svg, html) = (folder.join("q.svg"), folder.join("q.html"));
-    let (list_file, svg, html) = (
-        file(NAME),
-        svg.display().to_string(),
-        html.display().to_string(),
-    );
+    let list_file = file(NAME);
+    let [svg, html, key] =
+        ["q.svg", "q.html", "key.html"].map(|name| folder.join(name).display().to_string());
     for args in [
         &["play", &list_file][..],
         &["explain", &list_file],
         &["picture", &list_file, &svg],
         &["page", &list_file, &html],
+        &["handout", &list_file, &key, "--key"],
         &["state", "3", &list_file],
         &["next", &list_file],
         &["survivors", &list_file],
@@ -318,7 +326,7 @@ fn quick_says_so() {
         // What is written says so too; the run without `--quick` has just written over it.
         run(&quick);
     }
-    for made in [svg, html] {
+    for made in [svg, html, key] {
         let made = fs::read_to_string(made).expect("a file");
         assert!(made.contains("05-crash-with-cover (not the proved engine's lines)"));
     }

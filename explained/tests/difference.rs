@@ -89,11 +89,11 @@ fn states_and_pages_tell_of_a_difference() {
     let difference = explained::table::table(LIST, wrong, &places).expect_err("a difference");
     assert_eq!(difference.number, 2);
     let source = Source {
-        given: LIST,
+        digits: LIST,
         quick: false,
         places: &places,
     };
-    let difference = source.play(LIST, wrong).expect_err("a difference");
+    let difference = source.play(wrong).expect_err("a difference");
     assert_eq!(difference.number, 2);
     let page = explained::page::page("a list", "wrong", LIST, wrong, None).expect("a page");
     match page.wrong {

@@ -3,6 +3,7 @@
 mod common;
 
 use common::documents::{blocks, document, flowing, plain, root, rows};
+use common::list;
 use common::run::{fed, fresh, run};
 use explained::names::joined;
 use explained::notation::{decode, digits};
@@ -47,15 +48,19 @@ fn the_sitting_of_readme() {
 
 /// Every call of README, as typed, but for the building.
 #[test]
+#[cfg_attr(not(library), ignore = "needs the engine's library")]
 fn the_calls_of_readme() {
     let folder = fresh("readme");
     fs::write(folder.join("mine.txt"), own_list()).expect("a list");
+    // Any list will do for the random one.
+    fs::write(folder.join("exam.txt"), list("05-crash-with-cover")).expect("a list");
     let readme = document("README.md");
     let calls = blocks(&readme, "sh").into_iter().flat_map(str::lines);
+    let named = |line: &str| line.contains("mine") || line.contains("exam");
     let calls: Vec<&str> = calls
-        .filter(|line| line.starts_with("tools/satuphir ") && line.contains("mine"))
+        .filter(|line| line.starts_with("tools/satuphir ") && named(line))
         .collect();
-    assert_eq!(calls.len(), 4);
+    assert_eq!(calls.len(), 8);
     for call in calls {
         let words: Vec<&str> = call.split(' ').skip(1).collect();
         let output = common::run::satuphir()
@@ -65,7 +70,9 @@ fn the_calls_of_readme() {
             .expect("a run");
         assert!(output.status.success(), "{call}");
     }
-    assert!(folder.join("mine.html").is_file());
+    for made in ["mine.html", "exam.html", "key.html", "tutors.html"] {
+        assert!(folder.join(made).is_file(), "{made}");
+    }
     // The table has every subcommand of the help, and the other way round.
     let help = run(&["--help"]).1;
     let called = |text: &str| -> Vec<String> {

@@ -2,7 +2,7 @@
 
 mod common;
 
-use common::{drawn, explained, folder, list, names};
+use common::{explained, folder, list, names, written};
 use reference::reader::Sitting;
 use std::fs;
 
@@ -47,7 +47,7 @@ fn texts() {
 #[test]
 fn pictures() {
     for name in names() {
-        let picture = drawn(&name, &explained(&list(&name)).story);
+        let picture = written(&name, &list(&name));
         assert!(
             stored(&name, "svg") == picture,
             "{name}.svg is not up to date"

@@ -97,7 +97,9 @@ fn play_as_json() {
     let json = Json::read(&text);
     assert_eq!(json.get("version").text(), env!("CARGO_PKG_VERSION"));
     assert_eq!(json.get("engine").text(), "proved engine");
-    assert_eq!(json.get("list").text(), version::hash(LIST.as_bytes()));
+    // The same for a list in words and in digits.
+    let hash = version::hash(&digits(LIST.as_bytes()).expect("a list"));
+    assert_eq!(json.get("list").text(), hash);
     let frames = json.get("frames").items();
     let number = |name: &str| -> Vec<usize> {
         let frames = frames.iter();

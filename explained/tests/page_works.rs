@@ -137,7 +137,8 @@ fn check_marks(name: &str, works: &[Shown], html: &str) -> usize {
         assert_eq!(work.marks.len(), work.frames.len(), "{name}: {text}");
         let seen = work.marks.iter().filter(|[_, _, width]| *width > 0.0);
         let seen: Vec<(f64, f64)> = seen.map(|[x, y, _]| (*x, y + 4.5)).collect();
-        assert_eq!(seen, svg::places(html, &text), "{name}: {text}");
+        let (screen, _) = html.split_once("<div id=\"print\"").expect("two parts");
+        assert_eq!(seen, svg::places(screen, &text), "{name}: {text}");
         folded += work.marks.len() - seen.len();
     }
     folded

@@ -3,7 +3,7 @@
 mod common;
 
 use common::svg::{attribute, number, place, places, said, shapes};
-use common::{drawn, explained, list, widest_lists};
+use common::{drawn, explained, list};
 use explained::picture::{Drawing, MOST_ROWS};
 use reference::generator;
 
@@ -266,65 +266,10 @@ fn repeated_stretches_are_folded() {
     assert_eq!(frames(&example("05-crash-with-cover")).1, 0);
 }
 
-/// Top and height of what a page shows.
-fn view(page: &str) -> [f64; 2] {
-    let numbers: Vec<f64> = attribute(page, "viewBox")
-        .split(' ')
-        .map(|n| n.parse().expect("a number"))
-        .collect();
-    [numbers[1], numbers[3]]
-}
-
-/// Each page is a sheet of A4, with its title and the names of columns and lanes; no row is cut.
-#[test]
-fn pages_have_heads() {
-    let (_, wide) = widest_lists().next().expect("a wide job");
-    for (list, machines, size) in [
-        (
-            list("11-full-window"),
-            2,
-            "width=\"210mm\" height=\"297mm\"",
-        ),
-        (wide, 6, "width=\"297mm\" height=\"210mm\""),
-    ] {
-        let drawing = Drawing::new("a list", &explained(&list).story).expect("a picture");
-        let pages = drawing.pages();
-        assert!(pages.len() > 1);
-        let names = (1..=machines).map(|machine| format!("machine {machine}"));
-        let names: Vec<String> = names
-            .chain(["frame", "line", "desk", "what happened"].map(str::to_string))
-            .collect();
-        for (at, page) in pages.iter().enumerate() {
-            assert!(page.contains(size));
-            let [top, height] = view(page);
-            let title = format!(
-                "a list: who sent what to whom, frame by frame, time running down (page {} of {})",
-                at + 1,
-                pages.len()
-            );
-            for name in names.iter().chain([&title]) {
-                let here = |&&(_, y): &&(f64, f64)| (top..top + height).contains(&y);
-                assert_eq!(
-                    places(page, name).iter().filter(here).count(),
-                    1,
-                    "{title}: {name}"
-                );
-            }
-        }
-        for &(top, height) in &drawing.rows {
-            let whole = |page: &String| {
-                let [from, high] = view(page);
-                from <= top && top + height <= from + high
-            };
-            assert!(pages.iter().any(whole), "a row at {top} is cut");
-        }
-    }
-}
-
 #[test]
 fn a_list_too_long_to_draw_is_named_so() {
     let story = explained(&generator::list(107, 5000)).story;
-    let error = Drawing::new("a list", &story).err().expect("too long");
+    let error = Drawing::new("a list", "", &story).err().expect("too long");
     assert!(
         error.starts_with("too long to draw: 5000 frames, "),
         "{error}"

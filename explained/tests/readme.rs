@@ -97,8 +97,9 @@ fn how_scripts_are_called() {
     for file in fs::read_dir(tools()).expect("scripts") {
         let file = file.expect("a script");
         let script = file.file_name().into_string().expect("a name");
-        // It is read by others; this one shows the program's own help.
-        if ["programs.sh", "lists"].contains(&script.as_str()) {
+        // What is no program is read by others; this one shows the program's own help.
+        let text = fs::read_to_string(file.path()).expect("a script");
+        if !text.starts_with("#!") || script == "lists" {
             continue;
         }
         let name = format!("tools/{script}");

@@ -44,7 +44,7 @@ sent-at-0 row i g l z = elim (good-sender row i (g .1 i l) (omega arith)) [
 
 -- ---- a chain goes forward in the row (`chain-forward` in `Chains`)
 module _ (row : List Processing) (g : Good row (length row)) where
-  -- "A processing does not precede itself"
+  -- no processing precedes itself
   pub not-itself : (a : Name) → Chain row a a → ⊥
   not-itself a c = let i = stands-at a row (end-stands c) in omega (arith, chain-forward row g (i .0) (i .0) (i .1) (i .1) (i .2) (i .2) c)
 

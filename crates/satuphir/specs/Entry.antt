@@ -1,5 +1,6 @@
 -- The counts that a caller in C gets, and what its buffer then holds.
 use Rattle.lists.specs.Basics.{true, false, cond, List, [], _++_, _≡_, sym, ap, _∙_, ℕ, _≤_, _<_, leb, le-leb, lt-leb, length, drop}
+use Rattle.lists.specs.Tests.{either}
 use Rattle.transcript.specs.{Reading.Reading, View.{Ending, enough, whole-output, Transcribed}, declared.Ended.Ended}
 use Rattle.protocol.specs.Step.{answers}
 use Rattle.arrays.specs.Copies.{Wrote}
@@ -17,17 +18,12 @@ pub record Entered (input room : List ℕ) (r written : ℕ) (out : List ℕ) : 
   pub count : r ≡ counted (length room) input
   pub bytes : Wrote room (whole-output (length room) input) written out
 
-module _ (input room : List ℕ) (e : Ended) (out : List ℕ) (t : Transcribed input room e out) where
-  wrote : Wrote room (whole-output (length room) input) (e .written) out
-  wrote = record { count = t .written; bytes = t .bytes }
-
-  pub entered : e .ok ≡ true → Entered input room (e .written) (e .written) out
-  unfolding counted whole-output
-  entered h = record { count = t .written ∙ rw (sym (t .ok) ∙ h); bytes = wrote }
-
-  pub not-entered : e .ok ≡ false → Entered input room no-room (e .written) out
-  unfolding counted
-  not-entered h = record { count = rw (sym (t .ok) ∙ h); bytes = wrote }
+pub entered : (input room : List ℕ) (e : Ended) (out : List ℕ) → Transcribed input room e out → (r : ℕ) → r ≡ cond (e .ok) (e .written) no-room → Entered input room r (e .written) out
+unfolding counted whole-output
+entered input room e out t r is = record {
+  count = is ∙ rw (t .ok) (either (enough (length room) input) (λ h. rw h (t .written ∙ rw h)) (λ h. rw h));
+  bytes = record { count = t .written; bytes = t .bytes };
+}
 
 -- the end of an input that came in pieces, of which n bytes of the line under way were read: then none is under way, or all is as it was
 pub record Finished (r : Reading) (n : ℕ) (room : List ℕ) (answer len : ℕ) (s line out : List ℕ) : Type 0 where
@@ -35,13 +31,6 @@ pub record Finished (r : Reading) (n : ℕ) (room : List ℕ) (answer len : ℕ)
   pub ending : Ending r n room ended s line out
   pub count : answer ≡ cond (ended .ok) (ended .written) no-room
   pub left : len ≡ cond (ended .ok) 0 n
-
-module _ (r : Reading) (n : ℕ) (room : List ℕ) (e : Ended) (s line out : List ℕ) (h : Ending r n room e s line out) where
-  pub finished : e .ok ≡ true → Finished r n room (e .written) 0 s line out
-  finished ok = record { ended = e; ending = h; count = rw ok; left = rw ok }
-
-  pub not-finished : e .ok ≡ false → Finished r n room no-room n s line out
-  not-finished full = record { ended = e; ending = h; count = rw full; left = rw full }
 
 -- document 02, Point 8: all lines, or nothing where the buffer may be too short for them
 unfoldable pub lines-written : ℕ → List ℕ → List ℕ

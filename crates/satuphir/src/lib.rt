@@ -1,12 +1,23 @@
 // The entries of the static library, for callers in C and Rust.
 ghost use mathlib.Core.Path.{_≡_};
+ghost use mathlib.Core.Bool.{cond};
 ghost use Rattle.store.specs.Places.{STORE};
 ghost use Rattle.transcript.specs.View.{reading, Feeding};
-ghost use Rattle.satuphir.specs.Entry.{Entered, Finished, Counted, Answered};
+ghost use Rattle.satuphir.specs.Entry.{no-room, Entered, Finished, Counted, Answered};
 use crashsets::ROOM;
 use precedes::Processing;
 use store::STORE;
 use transcript::LINE;
+
+// How many bytes were written, or the largest number where room ran out.
+fn number(ok: bool, written: usize) -> usize
+    ensures { λ r. ⌜ r ≡ cond ok written no-room ⌝ }
+{
+    if ok {
+        return written;
+    }
+    usize::MAX
+}
 
 // Writes the answers to a whole input into the buffer and returns how many bytes they are. Where fewer than 16 bytes are left ahead of a
 // line it stops there and returns the largest number. Either way `written` gets the number of bytes that were written, and the buffer
@@ -17,10 +28,7 @@ pub extern "C" fn satuphir_transcript(input: &[u8], out: &mut [u8], written: &mu
 {
     let e = transcript::whole(input, out);
     *written = e.written;
-    if e.ok {
-        return e.written;
-    }
-    usize::MAX
+    number(e.ok, e.written)
 }
 
 // How many words a store has: it moves when the rules do, and a caller that was built with another header sees it here.
@@ -66,9 +74,8 @@ pub extern "C" fn satuphir_finish(
     let e = transcript::finish(store, line, n, out);
     if e.ok {
         *len = 0;
-        return e.written;
     }
-    usize::MAX
+    number(e.ok, e.written)
 }
 
 // Writes how many crash sets are survived by the job in the first line of the input, and returns how many bytes these lines are. Where

@@ -31,14 +31,35 @@ impl Browser {
         for part in ["Page", "Runtime", "Network"] {
             browser.call(&format!("{part}.enable"), "{}");
         }
-        browser.call("Page.navigate", &format!("{{\"url\":\"file://{page}\"}}"));
-        for _ in 0..100 {
-            if browser.value("String(document.readyState + location.protocol)") == "completefile:" {
-                return browser;
+        browser.go(page);
+        browser
+    }
+
+    /// Leaves the page for another, or for a place of the same.
+    pub fn go(&mut self, page: &str) {
+        self.call("Page.navigate", "{\"url\":\"about:blank\"}");
+        self.call("Page.navigate", &format!("{{\"url\":\"file://{page}\"}}"));
+        self.wait("document.readyState + location.protocol === 'completefile:'");
+    }
+
+    /// Waits until this is so.
+    pub fn wait(&mut self, what: &str) {
+        for _ in 0..200 {
+            if self.value(&format!("String({what})")) == "true" {
+                return;
             }
             sleep(Duration::from_millis(100));
         }
-        panic!("the page does not open");
+        panic!("not within twenty seconds: {what}");
+    }
+
+    /// The window's size; a narrow one is a phone's.
+    pub fn resize(&mut self, width: u32, height: u32) {
+        let phone = width < 600;
+        let params = format!(
+            "{{\"width\":{width},\"height\":{height},\"deviceScaleFactor\":1,\"mobile\":{phone}}}"
+        );
+        self.call("Emulation.setDeviceMetricsOverride", &params);
     }
 
     /// Sends a command and waits for its answer. What happens meanwhile is looked at: no error, nothing fetched.
@@ -87,10 +108,11 @@ impl Browser {
         text(&answer, "value")
     }
 
-    /// Moves the pointer to the middle of an element, scrolled into sight.
+    /// Moves the pointer to the middle of an element, scrolled into sight; a packet not below the columns at the left.
     pub fn point(&mut self, element: &str) -> (f64, f64) {
         let place = self.value(&format!(
-            "(() => {{ const e = {element}; e.scrollIntoView({{block: 'center', inline: 'nearest'}}); const r = e.getBoundingClientRect(); \
+            "(() => {{ const e = {element}; const inline = e.closest('.packet') ? 'center' : 'nearest'; \
+             e.scrollIntoView({{block: 'center', inline}}); keepColumns(); const r = e.getBoundingClientRect(); \
              return (r.left + r.width / 2) + ' ' + (r.top + r.height / 2); }})()"
         ));
         let place: Vec<f64> = place
@@ -120,6 +142,11 @@ impl Browser {
             let params = format!("{{\"type\":\"{what}\",\"key\":\"{key}\",\"code\":\"{key}\",\"windowsVirtualKeyCode\":{code}}}");
             self.call("Input.dispatchKeyEvent", &params);
         }
+    }
+
+    /// Shows a frame, counted from 0, without button and key.
+    pub fn go_to(&mut self, frame: usize) {
+        self.value(&format!("String(show({frame}))"));
     }
 
     pub fn close(mut self) {

@@ -1,7 +1,9 @@
 //! Clicks, types and points through the page of a list in a browser, and compares all that it shows with what the list gives.
-//! `tools/page-in-browser.sh` starts the browser and this.
+//! `tools/page-in-browser.sh` starts the browser and this; `tools/type-size.sh` too, to measure type.
 
 mod browser;
+mod sizes;
+mod tools;
 
 use browser::Browser;
 use explained::before::row::{Row, Work};
@@ -19,6 +21,10 @@ struct Moment {
     text: String,
     state: String,
     order: Option<Order>,
+    /// Is it one that one may jump to?
+    refusal: bool,
+    crash: bool,
+    quiet: bool,
 }
 
 /// What it shows of a processing.
@@ -51,6 +57,10 @@ fn moments(list: &[u8]) -> Vec<Moment> {
             text: words(step).join("\n"),
             state: state.join("\n"),
             order: None,
+            refusal: !step.line.starts_with("00") && step.line != "FF",
+            crash: step.head().contains("  crash ") && step.before.world != step.after.world
+                || step.line == "FF",
+            quiet: step.after.is_quiet() && !step.before.is_quiet(),
         });
     });
     assert!(result.is_ok(), "the lines differ");
@@ -164,12 +174,13 @@ fn check(browser: &mut Browser, moments: &[Moment], at: usize) {
         .count();
     same("marks", frame, &marked, &changes.to_string());
     check_order(browser, frame, moments[at].order.as_ref());
-    // The row with the frame's number is marked, and in sight; a folded frame has no number.
+    browser.wait(&format!("location.hash === '#{frame}'"));
+    // The row with the frame's number is marked, and in sight below the names of the lanes; a folded frame has no number.
     let seen = browser.value(&format!(
-        "(() => {{ const r = row.getBoundingClientRect(), p = picture.getBoundingClientRect(); \
+        "(() => {{ const r = row.getBoundingClientRect(), p = picture.getBoundingClientRect(), h = part('heads').getBoundingClientRect(); \
          const number = [...svg.querySelectorAll('text.quiet')].find(t => t.textContent === '{frame}'); \
          const n = number ? number.getBoundingClientRect() : r; \
-         return String(r.height > 0 && r.top >= p.top - 1 && r.top < p.bottom && r.top <= n.top && n.bottom <= r.bottom); }})()"
+         return String(r.height > 0 && r.top >= h.bottom - 1 && Math.abs(h.top - p.top) < 1 && r.top < p.bottom && r.top <= n.top && n.bottom <= r.bottom); }})()"
     ));
     same("row in sight", frame, &seen, "true");
 }
@@ -177,9 +188,15 @@ fn check(browser: &mut Browser, moments: &[Moment], at: usize) {
 fn main() -> ExitCode {
     let args: Vec<String> = std::env::args().skip(1).collect();
     let [to, from, page, list] = &args[..] else {
-        eprintln!("click_through TO FROM PAGE LIST, with the two pipes of a browser");
+        eprintln!("click_through TO FROM PAGE LIST|--sizes, with the two pipes of a browser");
         return ExitCode::from(2);
     };
+    if list == "--sizes" {
+        let mut browser = Browser::open(to, from, page);
+        sizes::check_all(&mut browser, page);
+        browser.close();
+        return ExitCode::SUCCESS;
+    }
     let given = std::fs::read(list).expect("a list");
     let moments = moments(&notation::digits(&given).expect("a list"));
     let last = moments.len() - 1;
@@ -223,7 +240,7 @@ fn main() -> ExitCode {
         .filter_map(|(at, moment)| Some((at, moment.order.as_ref()?.from?)))
         .collect();
     for &(at, from) in &ways {
-        browser.value(&format!("String(show({at}))"));
+        browser.go_to(at);
         browser.click("document.querySelector('#order button')");
         check(&mut browser, &moments, from);
     }
@@ -236,10 +253,11 @@ fn main() -> ExitCode {
     }
     let labels = browser.value("String(document.querySelectorAll('.packet text').length)");
     assert_eq!(labels, titles.len().to_string(), "packets");
+    tools::check_all(&mut browser, &moments, page);
     browser.close();
     println!(
         "the page shows what the list gives: {} frames by button and key, {} arrows between processings gone along, {} packets pointed at, \
-         nothing fetched, no error",
+         address, zoom, jumps, search and class mode tried, nothing fetched, no error",
         moments.len(),
         ways.len(),
         titles.len()

@@ -1,6 +1,7 @@
 //! What was asked, from the words of the call. Options may stand anywhere; after `--` there are none.
 
 use super::Failure;
+use crate::handout::Sort;
 use crate::variants::MOST;
 use reference::precedes::Name;
 use std::ffi::{OsStr, OsString};
@@ -13,6 +14,7 @@ pub enum Task {
     Explain,
     Picture,
     Page,
+    Handout(Sort),
     State(usize),
     /// After so many frames, or after all of the list.
     Next(Option<usize>),
@@ -31,7 +33,7 @@ pub struct Asked {
     pub table: bool,
     pub json: bool,
     pub list: OsString,
-    /// The file to write, for a picture or a page, `-` being standard output; for variants also a folder.
+    /// The file to write, for a picture, a page or a handout, `-` being standard output; for variants also a folder.
     pub out: Option<OsString>,
     /// How many variants, and of which seed.
     pub count: usize,
@@ -49,9 +51,21 @@ struct Options {
     pages: bool,
     table: bool,
     json: bool,
+    key: bool,
+    explained: bool,
     picture: Option<OsString>,
     seed: Option<OsString>,
     out: Option<OsString>,
+}
+
+impl Options {
+    fn handout(&self) -> Sort {
+        match (self.key, self.explained) {
+            (_, true) => Sort::Explained,
+            (true, false) => Sort::Key,
+            (false, false) => Sort::Blank,
+        }
+    }
 }
 
 fn usage<T>(message: String) -> Result<T, Failure> {
@@ -93,6 +107,7 @@ impl Asked {
             Some("explain") => Task::Explain,
             Some("picture") => Task::Picture,
             Some("page") => Task::Page,
+            Some("handout") => Task::Handout(options.handout()),
             Some("state") => Task::State(frame(
                 &word("the number of a frame, and a list")?,
                 "state N LIST",
@@ -113,7 +128,7 @@ impl Asked {
         let mut list = word("a list (a file, or - for standard input)")?;
         let out = match task {
             Task::Picture => Some(word("a file to write, such as out.svg")?),
-            Task::Page => Some(word("a file to write, such as out.html")?),
+            Task::Page | Task::Handout(_) => Some(word("a file to write, such as out.html")?),
             Task::Explain => options.picture.clone(),
             Task::Variants => options.out.clone(),
             _ => None,
@@ -152,6 +167,9 @@ impl Asked {
         if (options.seed.is_some() || options.out.is_some()) && task != Task::Variants {
             return usage("--seed and --out go with variants alone".to_string());
         }
+        if (options.key || options.explained) && !matches!(task, Task::Handout(_)) {
+            return usage("--key and --explained go with handout alone".to_string());
+        }
         Ok(Asked {
             task,
             quick: options.quick,
@@ -168,11 +186,11 @@ impl Asked {
 
     /// Does it need lines, and are these to be the proved engine's?
     pub fn needs_engine(&self) -> bool {
-        !self.quick
-            && !matches!(
-                self.task,
-                Task::Help | Task::Version | Task::Encode | Task::Decode
-            )
+        let needs_none = matches!(
+            self.task,
+            Task::Help | Task::Version | Task::Encode | Task::Decode | Task::Handout(Sort::Blank)
+        );
+        !self.quick && !needs_none
     }
 }
 
@@ -191,6 +209,8 @@ fn sort(given: Vec<OsString>) -> Result<(Options, Vec<OsString>), Failure> {
             Some("--pages") => options.pages = true,
             Some("--table") => options.table = true,
             Some("--json") => options.json = true,
+            Some("--key") => options.key = true,
+            Some("--explained") => options.explained = true,
             Some("--picture") => match given.next() {
                 Some(file) => options.picture = Some(file),
                 None => return usage("--picture needs a file to write".to_string()),

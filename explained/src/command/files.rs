@@ -131,12 +131,23 @@ pub fn write(out: &OsStr, text: impl AsRef<[u8]>) -> Result<(), Failure> {
     }
 }
 
-/// The file of one page: `out.svg` becomes `out-2.svg`.
+/// The file of one sheet: `out.svg` becomes `out-2.svg`.
 pub fn page(out: &OsStr, number: usize) -> OsString {
+    let end = Path::new(out).extension().unwrap_or_default();
+    beside(out, &format!("-{number}"), end)
+}
+
+/// The file with all sheets: `out.svg` becomes `out-print.html`.
+pub fn printable(out: &OsStr) -> OsString {
+    beside(out, "-print", "html".as_ref())
+}
+
+/// A file in the same folder, with something added to its name, and this ending.
+fn beside(out: &OsStr, more: &str, end: &OsStr) -> OsString {
     let path = Path::new(out);
     let mut name = path.file_stem().unwrap_or(out).to_os_string();
-    name.push(format!("-{number}"));
-    if let Some(end) = path.extension() {
+    name.push(more);
+    if !end.is_empty() {
         name.push(".");
         name.push(end);
     }

@@ -5,15 +5,18 @@ use super::files::{self, print};
 use super::usage::HELP;
 use super::{variants, Failure, DIFFERENT, DONE, NEEDS_ENGINE};
 use crate::data::Source;
+use crate::handout::Sort;
 use crate::hints::hints;
 use crate::lines::cut;
 use crate::notation::List;
-use crate::picture::{check_length, Drawing, Story};
+use crate::picture::{check_length, Drawing, Roll, Sheets, Story};
 use crate::state::Wrong;
 use crate::table::table;
-use crate::version::VERSION;
-use crate::{ahead, before, engine, notation, page, report, state, survivors};
+use crate::{
+    ahead, before, engine, handout, notation, page, paper, report, state, survivors, version,
+};
 use reference::reader::answer_all;
+use std::ffi::OsStr;
 use std::fmt::Display;
 
 /// Is the call good, and its list? Says whether the engine is needed.
@@ -63,7 +66,9 @@ fn usage<T>(message: &str) -> Result<T, Failure> {
 pub fn run(asked: &Asked) -> Result<u8, Failure> {
     match asked.task {
         Task::Help => return print(HELP.as_bytes()).map(|()| DONE),
-        Task::Version => return print(format!("satuphir {VERSION}\n").as_bytes()).map(|()| DONE),
+        Task::Version => {
+            return print(format!("satuphir {}\n", version::VERSION).as_bytes()).map(|()| DONE)
+        }
         _ => {}
     }
     look_at_out(asked)?;
@@ -84,7 +89,8 @@ pub fn run(asked: &Asked) -> Result<u8, Failure> {
         Task::Decode => print(notation::decode(digits).as_bytes()).map(|()| DONE),
         Task::Survivors => counts(asked, digits),
         Task::Variants => variants::run(asked, &input, digits),
-        _ => with_lines(asked, &input, &list),
+        Task::Handout(sort) => hand_out(asked, sort, digits),
+        _ => with_lines(asked, &list),
     }
 }
 
@@ -125,36 +131,47 @@ pub fn lines_of(asked: &Asked, digits: &[u8]) -> Vec<u8> {
     }
 }
 
-/// What needs the lines of the list.
-fn with_lines(asked: &Asked, given: &[u8], list: &List) -> Result<u8, Failure> {
-    let List { digits, places } = list;
-    let lines = lines_of(asked, digits);
-    let whose = match asked.quick {
-        true => QUICK,
-        false => "the proved engine's",
+/// The handout has no lines, a key has those of each chare's end too.
+fn hand_out(asked: &Asked, sort: Sort, digits: &[u8]) -> Result<u8, Failure> {
+    let (title, made_by, lines) = match sort {
+        Sort::Blank => (files::title(&asked.list), made_from(digits), Vec::new()),
+        _ => {
+            say_whose(asked);
+            let lines = lines_of(asked, &handout::with_shows(digits));
+            (title(asked), made_by(asked, digits), lines)
+        }
     };
-    let ask = (!asked.quick).then_some(engine::precedes as before::Ask);
+    let made = handout::handout(&title, &made_by, sort, digits, &lines);
+    put_file(asked, &made.html)?;
+    Ok(status(made.difference))
+}
+
+/// What needs the lines of the list.
+fn with_lines(asked: &Asked, list: &List) -> Result<u8, Failure> {
+    let List { digits, places } = list;
     say_whose(asked);
+    let lines = lines_of(asked, digits);
+    let ask = (!asked.quick).then_some(engine::precedes as before::Ask);
     let source = Source {
-        given,
+        digits,
         quick: asked.quick,
         places,
     };
     match asked.task {
-        Task::Play if asked.json => said(source.play(digits, &lines)),
+        Task::Play if asked.json => said(source.play(&lines)),
         Task::Play if asked.table => said(table(digits, &lines, places)),
         Task::Play => print(&lines).map(|()| DONE),
         Task::State(number) => of_moment(match asked.json {
-            true => source.state(digits, &lines, number),
+            true => source.state(&lines, number),
             false => state::after(digits, &lines, number, places),
         }),
         Task::Next(after) => of_moment(match asked.json {
-            true => source.next(digits, &lines, after),
+            true => source.next(&lines, after),
             false => ahead::next(digits, &lines, after, places),
         }),
         Task::Before => said(before::text(digits, &lines, ask, &asked.pairs)),
         Task::Page => {
-            let page = page::page(&title(asked), whose, digits, &lines, ask);
+            let page = page::page(&title(asked), &made_by(asked, digits), digits, &lines, ask);
             let page = page.map_err(|message| too_long(asked, message))?;
             put_file(asked, &page.html)?;
             Ok(status(page.wrong))
@@ -188,7 +205,7 @@ fn explained(asked: &Asked, list: &List, lines: &[u8]) -> Result<u8, Failure> {
     }
     let report = report::report(digits, lines, places);
     if asked.out.is_some() {
-        put_picture(asked, &report.story)?;
+        put_picture(asked, &made_by(asked, digits), &report.story)?;
     }
     if asked.task == Task::Explain {
         print(report.text.as_bytes())?;
@@ -205,6 +222,18 @@ fn title(asked: &Asked) -> String {
     }
 }
 
+/// What made a file, and from which list: it outlives the run.
+fn made_by(asked: &Asked, digits: &[u8]) -> String {
+    let engine = version::engine(asked.quick);
+    format!("Lines of the {engine}, {}", made_from(digits))
+}
+
+/// The hash is that of the digits, whichever form the list has.
+fn made_from(digits: &[u8]) -> String {
+    let (version, hash) = (version::VERSION, version::hash(digits));
+    format!("satuphir {version}, list {hash}")
+}
+
 fn too_long(asked: &Asked, message: String) -> Failure {
     Failure::File(format!("{}: {message}", files::title(&asked.list)))
 }
@@ -216,19 +245,25 @@ fn put_file(asked: &Asked, text: &str) -> Result<(), Failure> {
     }
 }
 
-fn put_picture(asked: &Asked, story: &Story) -> Result<(), Failure> {
-    let drawing = Drawing::new(&title(asked), story);
-    let drawing = drawing.map_err(|message| too_long(asked, message))?;
+/// The picture, or its sheets and beside them one file with all.
+fn put_picture(asked: &Asked, made_by: &str, story: &Story) -> Result<(), Failure> {
+    let name = title(asked);
+    let too_long = |message| too_long(asked, message);
     if !asked.pages {
+        let drawing = Drawing::new(&name, made_by, story).map_err(too_long)?;
         return put_file(asked, &drawing.whole());
     }
+    let roll = Roll::new(story).map_err(too_long)?;
+    let sheets = Sheets::new(&name, made_by, &roll);
     let out = asked.out.as_deref().unwrap_or_default();
-    for (at, page) in drawing.pages().iter().enumerate() {
-        let out = files::page(out, at + 1);
-        files::keep_apart(&asked.list, &out)?;
-        files::write(&out, page)?;
+    let put = |out: &OsStr, text: &str| {
+        files::keep_apart(&asked.list, out)?;
+        files::write(out, text)
+    };
+    for (at, sheet) in sheets.files().iter().enumerate() {
+        put(&files::page(out, at + 1), sheet)?;
     }
-    Ok(())
+    put(&files::printable(out), &paper::picture(&name, &sheets))
 }
 
 pub fn status(difference: Option<impl Display>) -> u8 {

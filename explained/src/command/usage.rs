@@ -5,6 +5,7 @@ tools/satuphir play LIST                 the lines, one for each frame
 tools/satuphir explain LIST              each frame with its line, in words
 tools/satuphir picture LIST OUT.svg      who sent what to whom, as a picture
 tools/satuphir page LIST OUT.html        picture, words and state in one page, to click through
+tools/satuphir handout LIST OUT.html     the frames in words to hand out, with a blank for each line
 tools/satuphir state N LIST              all that stands after frame N, with what it changed
 tools/satuphir next [N] LIST             what would be accepted after the list, or after frame N
 tools/satuphir survivors LIST            how many crash sets the buddies of the list's job survive
@@ -43,10 +44,13 @@ variants, has none.
 --table               with play: number, words and line of each frame
 --json                with play, state and next: the same for programs
 --picture OUT.svg     with explain: the picture too
---pages               with picture: one file for each sheet of A4, OUT-1.svg, OUT-2.svg, ...
+--pages               with picture: one file for each sheet of A4, OUT-1.svg, OUT-2.svg, ..., and
+                      OUT-print.html with all of them, to print
 --seed S              with variants: the same seed gives the same lists; 1 if it is not said
 --out OUT             with variants: for OUT.txt the files OUT-1.txt, OUT-2.txt, ...; in the folder
                       OUT, if it is one, files with the list's name and a number
+--key                 with handout: the lines where the blanks are, and each chare's end
+--explained           with handout: the key with the words for each frame, for tutors
 --help, --version     this; the version
 
 The first call that needs the proved engine proves and builds it, which takes minutes.

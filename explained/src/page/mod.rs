@@ -1,18 +1,21 @@
 //! One page to click through: the picture beside the words, and the state of the moment. It fetches nothing from elsewhere.
 
+mod html;
 pub mod json;
+mod print;
 mod works;
 
 use crate::before::row::Row;
 use crate::before::{self, Ask, Wrong};
 use crate::lines::cut;
-use crate::picture::{Drawing, Place, Recorder};
+use crate::picture::{Place, Recorder, Roll, Stand, ANSWERS_AT};
 use crate::play::{play, Step};
 use crate::state::compared;
-use crate::words::{letter, words};
+use crate::words::words;
+use html::Parts;
 use json::{array, quoted};
-use reference::answer::Rule;
-use std::fmt::Write;
+use reference::answer::Answer;
+use reference::frame::Frame;
 
 /// A page holds the state after each frame, so a longer list would make it heavy.
 pub const MOST_FRAMES: usize = 1000;
@@ -22,10 +25,10 @@ pub struct Page {
     pub wrong: Option<Wrong>,
 }
 
-/// The page of a list, given the lines for it and whose they are, and whom to ask what came before what.
+/// The page of a list, given the lines for it, what made them from which list, and whom to ask what came before what.
 pub fn page(
     title: &str,
-    whose: &str,
+    made_by: &str,
     input: &[u8],
     lines: &[u8],
     ask: Option<Ask>,
@@ -37,26 +40,34 @@ pub fn page(
         ));
     }
     let (mut recorder, mut row) = (Recorder::new(), Row::default());
-    let mut moments = Vec::new();
+    let (mut moments, mut table) = (Vec::new(), String::new());
     let result = play(input, lines, |step| {
         recorder.see(step);
         row.see(step);
         moments.push(moment(step));
+        table.push_str(&print::row(step));
     });
-    let drawing = Drawing::new(title, &recorder.story)?;
-    let rows = drawing.rows.iter();
-    let rows = rows.map(|(top, height)| format!("[{top:.1},{height:.1}]"));
-    let (works, wrong) = match processings(&row, &drawing.works, ask) {
+    let roll = Roll::new(&recorder.story)?;
+    let rows = roll.rows.iter();
+    let rows = rows.map(|Stand { top, height, x }| format!("[{top:.1},{height:.1},{x:.1}]"));
+    let (works, wrong) = match processings(&row, &roll.works, ask) {
         Ok(works) => (works, None),
         Err(wrong) => (quoted(NOT_SAID), Some(wrong)),
     };
     let data = format!(
-        "{{\"moments\":{},\"rows\":{},\"works\":{works}}}",
+        "{{\"answers\":{ANSWERS_AT},\"moments\":{},\"rows\":{},\"works\":{works}}}",
         array(moments),
         array(rows.collect())
     );
+    let parts = Parts {
+        title,
+        made_by,
+        roll: &roll,
+        table,
+        data,
+    };
     Ok(Page {
-        html: html(title, whose, &drawing.whole(), &data),
+        html: html::html(&parts),
         wrong: result.err().map(Wrong::Lines).or(wrong),
     })
 }
@@ -86,62 +97,20 @@ fn moment(step: &Step) -> String {
         sections.push(format!("[{},{}]", quoted(&section.title), array(entries)));
     }
     format!(
-        "{{\"head\":{},\"text\":{},\"state\":{}}}",
+        "{{\"head\":{},\"text\":{},\"is\":{},\"state\":{}}}",
         quoted(&step.head()),
         array(text),
+        array(kinds(step).iter().map(|kind| quoted(kind)).collect()),
         array(sections)
     )
 }
 
-/// A letter with what it means.
-fn meaning(rule: Rule) -> String {
-    let meaning = crate::picture::escape(&letter::meaning(rule));
-    format!("<p><b>{}</b> {meaning}</p>\n", rule.letter())
-}
-
-fn html(title: &str, whose: &str, picture: &str, data: &str) -> String {
-    let title = crate::picture::escape(title);
-    let letters: String = Rule::ALL.map(meaning).concat();
-    let mut page = String::new();
-    let _ = write!(
-        page,
-        "<!DOCTYPE html>
-<html lang=\"en\">
-<head>
-<meta charset=\"utf-8\">
-<title>{title}</title>
-<style>
-{style}</style>
-</head>
-<body>
-<header>
-<h1>{title}</h1>
-<button id=\"back\" type=\"button\">Back</button>
-<span id=\"place\"></span>
-<button id=\"next\" type=\"button\">Next</button>
-<p>Keys: arrows, Home, End; or click a row of the picture. The lines are {whose}.</p>
-</header>
-<main>
-<div id=\"picture\">
-{picture}</div>
-<div id=\"side\">
-<section><h2 id=\"head\"></h2><div id=\"text\" aria-live=\"polite\"></div></section>
-<section><h2>Packet</h2><p id=\"packet\"></p></section>
-<section id=\"came\"><h2>What came before</h2><div id=\"order\" tabindex=\"-1\" aria-live=\"polite\"></div></section>
-<section><details id=\"letters\"><summary>{heading}</summary>
-{letters}</details></section>
-<section><h2>What stands</h2><p class=\"key\">* new or other than before, - gone</p><div id=\"state\"></div></section>
-</div>
-</main>
-<script type=\"application/json\" id=\"data\">{data}</script>
-<script>
-{script}</script>
-</body>
-</html>
-",
-        heading = letter::HEADING,
-        style = include_str!("page.css"),
-        script = include_str!("page.js"),
-    );
-    page
+/// What one may want to jump to: a refusal, a crash, a frame after which all is quiet again.
+fn kinds(step: &Step) -> Vec<&'static str> {
+    let refused = matches!(step.answer, Answer::Refused(_));
+    let crash = matches!(step.frame, Some(Frame::Crash { .. })) && !refused;
+    let quiet = step.after.is_quiet() && !step.before.is_quiet();
+    let kinds = [(refused, "refusal"), (crash, "crash"), (quiet, "quiet")];
+    let kinds = kinds.into_iter().filter(|(is, _)| *is);
+    kinds.map(|(_, kind)| kind).collect()
 }

@@ -13,10 +13,12 @@ pub fn put_heads(svg: &mut Svg, layout: &Layout, y: f64) {
     svg.text(Point::new(x, y), Anchor::Start, class, "what happened");
 }
 
+pub const GROUND: &str = "fill=\"#f6f7f8\"";
+
 /// Every second row has a light ground, to lead the eye from one margin to the other.
 pub fn put_grounds(svg: &mut Svg, story: &Story, layout: &Layout) {
     for at in (0..story.rows.len()).step_by(2) {
-        svg.rect(layout.row(at), 0.0, "fill=\"#f6f7f8\"");
+        svg.rect(layout.row(at), 0.0, GROUND);
     }
 }
 

@@ -19,7 +19,10 @@ const ROW_GAP: f64 = 3.0;
 pub const NUMBER_AT: f64 = 36.0;
 pub const FRAME_AT: f64 = 48.0;
 pub const LINE_AT: f64 = 162.0;
-const LANES_FROM: f64 = 284.0;
+/// From here on to the right a row shows what became of its frame.
+pub const ANSWERS_AT: f64 = LINE_AT - 6.0;
+/// Where they end, and the lanes begin.
+pub const LANES_FROM: f64 = 284.0;
 
 /// Each side of a lane has room for half its name.
 const LEAST_SIDE: f64 = 66.0;
@@ -40,11 +43,13 @@ const HEADLINE: usize = 44;
 pub const HEADLINE_STEP: f64 = 15.0;
 
 const LEAST_WIDTH: f64 = 900.0;
-/// A sheet of A4, upright unless the picture is wider than this.
+/// The shape of a sheet of A4, upright unless the picture is wider than this.
 const SHORT: f64 = 210.0;
 const LONG: f64 = 297.0;
 const UPRIGHT: f64 = 1600.0;
 const FOOT: f64 = 16.0;
+/// At the bottom stands what made the picture.
+pub const MADE_BY: f64 = 20.0;
 
 pub struct Layout {
     /// Top and height of each row.
@@ -60,8 +65,25 @@ pub struct Layout {
 }
 
 impl Layout {
-    /// `head` is how high the title and the legend are for a width.
-    pub fn new(story: &Story, head: impl Fn(f64) -> f64) -> Layout {
+    /// One sheet below another. `head` is how high the title and the legend are for a width.
+    pub fn sheets(story: &Story, head: impl Fn(f64) -> f64) -> Layout {
+        let mut layout = Layout::across(story);
+        let (wide, high) = layout.sheet();
+        layout.page = (layout.width * high / wide).ceil();
+        layout.put_rows(story, head(layout.width) + HEADS);
+        layout
+    }
+
+    /// The rows alone, without an end of a sheet.
+    pub fn roll(story: &Story) -> Layout {
+        let mut layout = Layout::across(story);
+        layout.page = f64::INFINITY;
+        layout.put_rows(story, 0.0);
+        layout
+    }
+
+    /// From the left to the right; no row stands yet.
+    fn across(story: &Story) -> Layout {
         let count = story.job.as_ref().map_or(1, |job| job.machine_count() + 1);
         let tracks = Tracks::new(story, count);
         let reaches = reaches(story, count);
@@ -83,14 +105,10 @@ impl Layout {
         let headlines = headlines.map(|line| text_width(&line));
         let width = (layout.headlines_at() + headlines.fold(220.0, f64::max)).ceil() + 12.0;
         layout.width = width.max(LEAST_WIDTH);
-        let (wide, high) = layout.sheet();
-        layout.page = (layout.width * high / wide).ceil();
-        layout.put_rows(story, head(layout.width));
         layout
     }
 
-    fn put_rows(&mut self, story: &Story, head: f64) {
-        let mut top = head + HEADS;
+    fn put_rows(&mut self, story: &Story, mut top: f64) {
         self.pages.push((0.0, top));
         for row in &story.rows {
             let lines = headline(row).len() as f64 * HEADLINE_STEP + 5.0;
@@ -145,16 +163,28 @@ impl Layout {
 
     /// The height of the whole picture.
     pub fn height(&self) -> f64 {
-        self.bottom() + FOOT
+        self.bottom() + FOOT + MADE_BY
     }
 
-    /// Width and height of a page on paper, in millimetres.
-    pub fn sheet(&self) -> (f64, f64) {
+    /// Width and height of a sheet, in any measure.
+    fn sheet(&self) -> (f64, f64) {
         if self.width > UPRIGHT {
             (LONG, SHORT)
         } else {
             (SHORT, LONG)
         }
+    }
+
+    /// Where the picture can be cut from top to bottom: no text lies over such a place, only packets on their way.
+    pub fn cuts(&self) -> Vec<f64> {
+        let lanes = self.lanes.iter().zip(&self.reaches).skip(1);
+        let lanes = lanes.map(|(lane, reach)| lane - reach[0]);
+        let headlines = self.headlines_at() - FROM_LANE;
+        [LANES_FROM]
+            .into_iter()
+            .chain(lanes)
+            .chain([headlines, self.width])
+            .collect()
     }
 
     pub fn row(&self, row: usize) -> Area {

@@ -8,6 +8,7 @@ use super::marked::MarkKind;
 use super::marks::put_pill;
 use super::record::End;
 use super::svg::{text_width, Anchor, Point, Svg};
+use crate::lines::wrapped;
 use crate::names;
 use crate::words::letter;
 use reference::answer::Rule;
@@ -84,9 +85,14 @@ fn word(sample: Sample, word: &str) -> String {
 pub fn put_legend(svg: &mut Svg, width: f64, top: f64) -> f64 {
     let y = put_samples(svg, &SAMPLES, width, top);
     let letters = Rule::ALL.map(|rule| (Sample::Letter(rule), ""));
-    let y = put_samples(svg, &letters, width, y);
-    svg.text(Point::new(LEFT, y + 4.0), Anchor::Start, "", NAMES);
-    y + ROW
+    let mut y = put_samples(svg, &letters, width, y);
+    let characters = (width - 2.0 * LEFT) / text_width("a");
+    let names = wrapped(NAMES, 0, characters as usize);
+    for line in names.lines() {
+        svg.text(Point::new(LEFT, y + 4.0), Anchor::Start, "", line);
+        y += ROW;
+    }
+    y
 }
 
 /// Samples with their words, in as many rows as they need, from `top` down; returns where the next row stands.

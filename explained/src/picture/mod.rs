@@ -10,11 +10,16 @@ mod legend;
 mod marked;
 mod marks;
 mod record;
+mod roll;
 mod routes;
+mod sheets;
 mod svg;
 mod title;
 mod tracks;
 
-pub use draw::{check_length, Drawing, Place, MOST_FRAMES, MOST_ROWS};
+pub use draw::{check_length, Drawing, MOST_FRAMES, MOST_ROWS};
+pub use layout::ANSWERS_AT;
 pub use record::{Recorder, Story};
-pub use svg::escape;
+pub use roll::{signs, Place, Roll, Stand};
+pub use sheets::Sheets;
+pub use svg::{escape, shared};

@@ -5,7 +5,15 @@ use std::fmt::Write;
 /// Shapes in the order in which they are drawn.
 #[derive(Default)]
 pub struct Svg {
-    body: String,
+    items: Vec<Item>,
+}
+
+enum Item {
+    /// A shape as it is written, and where it stands.
+    Shape(String, Area),
+    /// What follows, up to the end, belongs to a packet, explained by this text.
+    Packet(String),
+    EndOfPacket,
 }
 
 /// A place in the picture, in pixels from its top left corner.
@@ -28,6 +36,29 @@ pub struct Area {
     pub y: f64,
     pub width: f64,
     pub height: f64,
+}
+
+impl Area {
+    /// The least area round some points, with room for strokes and arrowheads.
+    fn round(points: &[Point]) -> Area {
+        const ROOM: f64 = 7.0;
+        let least = |of: fn(&Point) -> f64| points.iter().map(of).fold(f64::INFINITY, f64::min);
+        let most = |of: fn(&Point) -> f64| points.iter().map(of).fold(f64::NEG_INFINITY, f64::max);
+        let (x, y) = (least(|p| p.x) - ROOM, least(|p| p.y) - ROOM);
+        Area {
+            x,
+            y,
+            width: most(|p| p.x) + ROOM - x,
+            height: most(|p| p.y) + ROOM - y,
+        }
+    }
+
+    fn meets(&self, other: &Area) -> bool {
+        self.x < other.x + other.width
+            && other.x < self.x + self.width
+            && self.y < other.y + other.height
+            && other.y < self.y + self.height
+    }
 }
 
 #[derive(Clone, Copy, Debug, PartialEq, Eq)]
@@ -89,9 +120,10 @@ impl Svg {
     /// `more` holds attributes: colours, widths, dashes.
     pub fn line(&mut self, from: Point, to: Point, more: &str) {
         let [x1, y1, x2, y2] = [from.x, from.y, to.x, to.y].map(number);
-        self.put(format_args!(
-            "<line x1=\"{x1}\" y1=\"{y1}\" x2=\"{x2}\" y2=\"{y2}\" {more}/>"
-        ));
+        self.put(
+            Area::round(&[from, to]),
+            format!("<line x1=\"{x1}\" y1=\"{y1}\" x2=\"{x2}\" y2=\"{y2}\" {more}/>"),
+        );
     }
 
     /// A line through points, its corners rounded.
@@ -111,32 +143,34 @@ impl Svg {
                 }
             }
         }
-        self.put(format_args!("<path d=\"{way}\" {more}/>"));
+        self.put(Area::round(points), format!("<path d=\"{way}\" {more}/>"));
     }
 
     pub fn rect(&mut self, area: Area, round: f64, more: &str) {
         let [x, y, w, h, r] = [area.x, area.y, area.width, area.height, round].map(number);
-        self.put(format_args!(
-            "<rect x=\"{x}\" y=\"{y}\" width=\"{w}\" height=\"{h}\" rx=\"{r}\" {more}/>"
-        ));
+        self.put(
+            area,
+            format!("<rect x=\"{x}\" y=\"{y}\" width=\"{w}\" height=\"{h}\" rx=\"{r}\" {more}/>"),
+        );
     }
 
     pub fn circle(&mut self, centre: Point, radius: f64, more: &str) {
         let [x, y, r] = [centre.x, centre.y, radius].map(number);
-        self.put(format_args!(
-            "<circle cx=\"{x}\" cy=\"{y}\" r=\"{r}\" {more}/>"
-        ));
+        self.put(
+            Area::round(&[centre]),
+            format!("<circle cx=\"{x}\" cy=\"{y}\" r=\"{r}\" {more}/>"),
+        );
     }
 
     pub fn polygon(&mut self, points: &[Point], more: &str) {
-        let points: Vec<String> = points
+        let corners: Vec<String> = points
             .iter()
             .map(|p| format!("{},{}", number(p.x), number(p.y)))
             .collect();
-        self.put(format_args!(
-            "<polygon points=\"{}\" {more}/>",
-            points.join(" ")
-        ));
+        self.put(
+            Area::round(points),
+            format!("<polygon points=\"{}\" {more}/>", corners.join(" ")),
+        );
     }
 
     /// `at` is a point of the text's base line. Nothing is put for an empty text.
@@ -145,52 +179,104 @@ impl Svg {
             return;
         }
         let [x, y] = [at.x, at.y].map(number);
-        let anchor = match anchor {
-            Anchor::Start => "start",
-            Anchor::Middle => "middle",
-            Anchor::End => "end",
+        let width = text_width(text);
+        let (anchor, left) = match anchor {
+            Anchor::Start => ("start", at.x),
+            Anchor::Middle => ("middle", at.x - width / 2.0),
+            Anchor::End => ("end", at.x - width),
         };
+        let ends = [Point::new(left, at.y - 4.0), Point::new(left + width, at.y)];
         let text = escape(text);
-        self.put(format_args!(
-            "<text x=\"{x}\" y=\"{y}\" text-anchor=\"{anchor}\" {more}>{text}</text>"
-        ));
+        self.put(
+            Area::round(&ends),
+            format!("<text x=\"{x}\" y=\"{y}\" text-anchor=\"{anchor}\" {more}>{text}</text>"),
+        );
     }
 
-    fn put(&mut self, shape: std::fmt::Arguments) {
-        writeln!(self.body, "{shape}").expect("a string takes every text");
+    fn put(&mut self, area: Area, shape: String) {
+        self.items.push(Item::Shape(shape, area));
     }
 
     /// What follows belongs to a packet, explained by this text.
     pub fn open_packet(&mut self, title: &str) {
-        self.put(format_args!(
-            "<g class=\"packet\"><title>{}</title>",
-            escape(title)
-        ));
+        self.items.push(Item::Packet(escape(title)));
     }
 
     pub fn close_packet(&mut self) {
-        self.put(format_args!("</g>"));
+        self.items.push(Item::EndOfPacket);
     }
 
-    /// A file with what stands from `top` on, `height` high. `size` is the size on paper, else pixels.
-    pub fn file(
-        &self,
-        width: f64,
-        top: f64,
-        height: f64,
-        size: Option<&(String, String)>,
-    ) -> String {
-        let [w, y, h] = [width, top, height].map(number);
-        let (wide, high) = size.map_or((&w, &h), |(wide, high)| (wide, high));
-        format!(
-            "<svg xmlns=\"http://www.w3.org/2000/svg\" \
-                    width=\"{wide}\" height=\"{high}\" viewBox=\"0 {y} {w} {h}\">
+    /// All of it, a shape on each line.
+    pub fn body(&self) -> String {
+        self.shapes(|_| true)
+    }
+
+    /// The shapes that stand where they are to.
+    pub fn shapes(&self, here: impl Fn(&Area) -> bool) -> String {
+        let mut out = String::new();
+        for item in &self.items {
+            let _ = match item {
+                Item::Shape(_, area) if !here(area) => Ok(()),
+                Item::Shape(shape, _) => writeln!(out, "{shape}"),
+                Item::Packet(title) => {
+                    writeln!(out, "<g class=\"packet\"><title>{title}</title>")
+                }
+                Item::EndOfPacket => writeln!(out, "</g>"),
+            };
+        }
+        out
+    }
+
+    /// What can be seen of it in an area, for paper, where nobody points at a packet: put at `at`, and cut at the area's edges.
+    pub fn part(&self, class: &str, area: Area, at: Point) -> String {
+        let mut out = String::new();
+        let [x, y, left, top, width, height] =
+            [at.x, at.y, area.x, area.y, area.width, area.height].map(number);
+        let _ = writeln!(
+            out,
+            "<svg class=\"{class}\" x=\"{x}\" y=\"{y}\" width=\"{width}\" height=\"{height}\" viewBox=\"{left} {top} {width} {height}\">"
+        );
+        for item in &self.items {
+            match item {
+                Item::Shape(shape, place) if place.meets(&area) => {
+                    let _ = writeln!(out, "{shape}");
+                }
+                _ => {}
+            }
+        }
+        out + "</svg>\n"
+    }
+}
+
+/// A file of its own: what stands in an area of a body. `size` is the size on paper, else pixels.
+pub fn file(body: &str, area: Area, size: Option<(f64, f64)>) -> String {
+    let [x, y, w, h] = [area.x, area.y, area.width, area.height].map(number);
+    let (wide, high) = match size {
+        Some((wide, high)) => (format!("{wide}mm"), format!("{high}mm")),
+        None => (w.clone(), h.clone()),
+    };
+    let ground = match x.as_str() {
+        "0" => String::new(),
+        x => format!("x=\"{x}\" "),
+    };
+    format!(
+        "<svg xmlns=\"http://www.w3.org/2000/svg\" \
+                    width=\"{wide}\" height=\"{high}\" viewBox=\"{x} {y} {w} {h}\">
 <style>{STYLE}</style>
 <defs>{HATCH}</defs>
-<rect y=\"{y}\" width=\"{w}\" height=\"{h}\" fill=\"#fff\"/>
-{}</svg>
-",
-            self.body
-        )
-    }
+<rect {ground}y=\"{y}\" width=\"{w}\" height=\"{h}\" fill=\"#fff\"/>
+{body}</svg>
+"
+    )
+}
+
+/// A picture inside of a page that has what all its pictures share.
+pub fn inline(body: &str, width: f64, height: f64) -> String {
+    let [w, h] = [width, height].map(number);
+    format!("<svg width=\"{w}\" height=\"{h}\" viewBox=\"0 0 {w} {h}\">\n{body}</svg>\n")
+}
+
+/// What the pictures inside of a page share. It is not seen, but it must not be left out of what is drawn.
+pub fn shared() -> String {
+    format!("<svg class=\"shared\" width=\"0\" height=\"0\"><style>{STYLE}</style><defs>{HATCH}</defs></svg>\n")
 }

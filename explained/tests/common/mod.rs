@@ -16,12 +16,12 @@ pub mod told;
 
 use explained::before::row::Row;
 use explained::before::Ask;
-use explained::engine;
 use explained::notation::Places;
 use explained::page::page;
-use explained::picture::{Drawing, Story};
+use explained::picture::{Drawing, Roll, Sheets, Story};
 use explained::play::play;
 use explained::report::{report, Report};
+use explained::{engine, version};
 use reference::generator;
 use std::fs;
 use std::path::{Path, PathBuf};
@@ -64,13 +64,32 @@ pub fn explained(input: &[u8]) -> Report {
 }
 
 pub fn drawn(title: &str, story: &Story) -> String {
-    Drawing::new(title, story).expect("a picture").whole()
+    let drawing = Drawing::new(title, "made by a test", story);
+    drawing.expect("a picture").whole()
+}
+
+/// What the command writes into each file: whose lines, version, hash of the list in digits.
+pub fn made_by(list: &[u8]) -> String {
+    let (version, hash) = (version::VERSION, version::hash(list));
+    format!("Lines of the proved engine, satuphir {version}, list {hash}")
+}
+
+/// The picture as the command writes it.
+pub fn written(title: &str, list: &[u8]) -> String {
+    let drawing = Drawing::new(title, &made_by(list), &explained(list).story);
+    drawing.expect("a picture").whole()
+}
+
+/// The sheets of a list's picture.
+pub fn sheets(title: &str, list: &[u8]) -> Sheets {
+    let roll = Roll::new(&explained(list).story).expect("a picture");
+    Sheets::new(title, "made by a test", &roll)
 }
 
 /// The page of a list.
 pub fn made(title: &str, list: &[u8]) -> String {
     let (lines, ask) = (engine::lines(list), engine::precedes as Ask);
-    let page = page(title, "the proved engine's", list, &lines, Some(ask)).expect("a page");
+    let page = page(title, &made_by(list), list, &lines, Some(ask)).expect("a page");
     assert_eq!(page.wrong, None);
     page.html
 }

@@ -54,6 +54,8 @@ pub fn with_list(list: &OsStr) -> Vec<Vec<&OsStr>> {
         vec![word("explain"), list],
         vec![word("picture"), list, out],
         vec![word("page"), list, out],
+        vec![word("handout"), list, out],
+        vec![word("handout"), list, out, word("--key")],
         vec![word("state"), word("1"), list],
         vec![word("next"), list],
         vec![word("survivors"), list],
