@@ -1,4 +1,5 @@
-//! With the feature `engine`: links the proved engine, a static library.
+//! With the feature `engine`: links the proved engine, a static library, and tells packages that build on this one that it is there.
+//! Without that file they can do without the engine, and what calls it does not link.
 
 use std::env;
 use std::path::PathBuf;
@@ -17,14 +18,16 @@ fn main() {
         }
     };
     let library = folder.join("libsatuphir.a");
+    println!("cargo:rerun-if-changed={}", library.display());
     if !library.is_file() {
         println!(
-            "cargo:warning=no library {}: write it with `rt staticlib satuphir`, \
-             or name its folder in SATUPHIR_LIB",
+            "cargo:warning=no library {}: there is no proved engine here; write it with \
+             `rt staticlib satuphir`, or name its folder in SATUPHIR_LIB",
             library.display()
         );
+        return;
     }
-    println!("cargo:rerun-if-changed={}", library.display());
     println!("cargo:rustc-link-search=native={}", folder.display());
     println!("cargo:rustc-link-lib=static=satuphir");
+    println!("cargo:library=linked");
 }

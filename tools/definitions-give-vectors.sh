@@ -3,6 +3,8 @@
 # DIR/NN.out, as theorems of a scratch crate in a temporary folder. Without numbers, every list of DIR.
 set -euo pipefail
 root=$(cd "$(dirname "$0")/.." && pwd)
+[ $# -gt 0 ] || { echo "usage: definitions-give-vectors.sh DIR [NN..]" >&2; exit 2; }
+[ -d "$1" ] || { echo "definitions-give-vectors.sh: $1: there is no such folder" >&2; exit 2; }
 dir=$(cd "$1" && pwd); shift
 scratch=$(mktemp -d); trap 'rm -rf "$scratch"' EXIT
 mkdir -p "$scratch/crates/given/specs" "$scratch/crates/given/src"

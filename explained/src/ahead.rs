@@ -1,8 +1,10 @@
 //! What can come next: each packet, work and withdrawal that would be accepted, and what is blocked and why.
 
+use crate::lines::cut;
 use crate::names::{capital, count, packet};
-use crate::notation::{digits_of, one_line};
-use crate::play::{play, probe, Difference, Step};
+use crate::notation::{digits_of, one_line, Places};
+use crate::play::{probe, Step};
+use crate::state::{self, Wrong};
 use crate::words::{crash, refusal, words};
 use reference::answer::Answer;
 use reference::frame::Frame;
@@ -13,76 +15,137 @@ use reference::state::State;
 pub struct Try {
     pub digits: String,
     pub words: String,
-    pub verdict: Verdict,
+    /// The line it would get.
+    pub line: String,
+    pub accepted: bool,
+    /// What it would do, or why it would not be accepted.
+    pub why: String,
 }
 
-pub enum Verdict {
-    /// Accepted, with what it would do.
-    Yes(String),
-    /// The line it would get, and why.
-    No(String, String),
+/// Where what can come next is asked.
+pub struct Moment {
+    /// How many frames stand before it, and how many the list has.
+    pub frames: usize,
+    pub all: usize,
+    /// The last of these frames in digits and words, with its line.
+    head: Option<String>,
+    pub lost_at: Option<usize>,
+    state: State,
 }
 
-/// What the list leaves to come, given the engine's output for it.
-pub fn next(input: &[u8], engine: &[u8]) -> Result<String, Difference> {
-    let (mut state, mut frames, mut lost_at) = (State::new(), 0, None);
-    play(input, engine, |step| {
-        state = step.after.clone();
-        frames = step.number;
-        if step.answer == Answer::Lost {
-            lost_at = Some(step.number);
-        }
-    })?;
-    let head = format!("After {}.\n", count(frames, "frame"));
-    Ok(match (&state.job, lost_at) {
-        (None, _) => head + "No job is set: nothing but a job would be accepted, such as\njob 2 machines\nchare 1 on 1\n",
-        (Some(_), Some(frame)) => format!("{head}The run was lost at frame {frame}: no frame is accepted any more.\n"),
-        (Some(_), None) => head + &listed(&state),
-    })
-}
-
-fn listed(state: &State) -> String {
-    let (packets, works, machines) = (packets(state), works(state), machines(state));
-    let withdrawals = withdrawals(state);
-    let mut text = String::new();
-    for (tries, yes, no) in [
-        (
-            packets,
-            "Packets that can be delivered",
-            "Packets that are blocked",
-        ),
-        (works, "Works that can be done", "Works that are blocked"),
-        (
-            machines,
-            "What machines can do",
-            "What machines cannot do, or not without losing the run",
-        ),
-        (
-            withdrawals,
-            "Injections that can be withdrawn",
-            "Injections that cannot be withdrawn",
-        ),
-    ] {
-        let (open, blocked): (Vec<Try>, Vec<Try>) = tries
-            .into_iter()
-            .partition(|t| matches!(t.verdict, Verdict::Yes(_)));
-        put(&mut text, yes, &open);
-        put(&mut text, no, &blocked);
+impl Moment {
+    /// After so many frames, or else after all of the list, given the engine's output for it.
+    pub fn new(input: &[u8], engine: &[u8], after: Option<usize>) -> Result<Moment, Wrong> {
+        let all = cut(input).len();
+        let frames = after.unwrap_or(all);
+        state::at(input, engine, frames, |step| Moment {
+            frames,
+            all,
+            head: step.map(Step::head),
+            lost_at: step.and_then(|step| match step.answer {
+                Answer::Lost => Some(step.number),
+                _ => step.lost_at,
+            }),
+            state: step.map_or_else(State::new, |step| step.after.clone()),
+        })
     }
-    let inject = Frame::Inject {
-        chare: 1,
-        value: 3,
-        hops: 0,
-    };
-    put(
-        &mut text,
-        "The desk, for instance",
-        &[tried(state, inject, first_line)],
-    );
-    text
+
+    pub fn has_job(&self) -> bool {
+        self.state.job.is_some()
+    }
+
+    /// All frames that are worth trying, by kinds; none without a job or after a lost run.
+    pub fn groups(&self) -> Vec<Group> {
+        if !self.has_job() || self.lost_at.is_some() {
+            return Vec::new();
+        }
+        let state = &self.state;
+        let inject = Frame::Inject {
+            chare: 1,
+            value: 3,
+            hops: 0,
+        };
+        let group = |name, heads, tries| Group { name, heads, tries };
+        let desk = "The desk, for instance";
+        vec![
+            group(
+                "packets",
+                ["Packets that can be delivered", "Packets that are blocked"],
+                packets(state),
+            ),
+            group(
+                "works",
+                ["Works that can be done", "Works that are blocked"],
+                works(state),
+            ),
+            group(
+                "machines",
+                [
+                    "What machines can do",
+                    "What machines cannot do, or not without losing the run",
+                ],
+                machines(state),
+            ),
+            group(
+                "withdrawals",
+                [
+                    "Injections that can be withdrawn",
+                    "Injections that cannot be withdrawn",
+                ],
+                withdrawals(state),
+            ),
+            group("desk", [desk, desk], vec![tried(state, inject, first_line)]),
+        ]
+    }
 }
 
-fn put(text: &mut String, title: &str, tries: &[Try]) {
+/// Frames of one kind.
+pub struct Group {
+    pub name: &'static str,
+    /// Over those that would be accepted, and over the others.
+    heads: [&'static str; 2],
+    pub tries: Vec<Try>,
+}
+
+/// What can come next, after so many frames or after all of the list.
+pub fn next(
+    input: &[u8],
+    engine: &[u8],
+    after: Option<usize>,
+    places: &Places,
+) -> Result<String, Wrong> {
+    let moment = Moment::new(input, engine, after)?;
+    let mut text = match (after, &moment.head) {
+        (None, _) => format!("After {}.\n", count(moment.frames, "frame")),
+        (Some(_), None) => "Before the first frame.\n".to_string(),
+        (Some(number), Some(head)) => {
+            let (all, place) = (moment.all, places.beside(number));
+            format!("After frame {number} of {all}{place}:  {head}\n")
+        }
+    };
+    match moment.lost_at {
+        _ if !moment.has_job() => text.push_str(NO_JOB),
+        Some(frame) => text.push_str(&format!(
+            "The run was lost at frame {frame}: no frame is accepted any more.\n"
+        )),
+        None => {}
+    }
+    for group in moment.groups() {
+        let (open, blocked): (Vec<&Try>, Vec<&Try>) =
+            group.tries.iter().partition(|one| one.accepted);
+        put(&mut text, group.heads[0], &open);
+        put(&mut text, group.heads[1], &blocked);
+    }
+    Ok(text)
+}
+
+const NO_JOB: &str = "\
+No job is set: nothing but a job would be accepted, such as
+job 2 machines
+chare 1 on 1
+";
+
+fn put(text: &mut String, title: &str, tries: &[&Try]) {
     if tries.is_empty() {
         return;
     }
@@ -91,13 +154,13 @@ fn put(text: &mut String, title: &str, tries: &[Try]) {
         let Try {
             digits,
             words,
-            verdict,
-        } = one;
-        text.push_str(&match verdict {
-            Verdict::Yes(effect) => format!("  {words:<24} {digits}  {effect}\n"),
-            Verdict::No(line, why) => {
-                format!("  {words:<24} {digits}  {line}: {}.\n", capital(why))
-            }
+            line,
+            why,
+            ..
+        } = *one;
+        text.push_str(&match one.accepted {
+            true => format!("  {words:<24} {digits}  {why}\n"),
+            false => format!("  {words:<24} {digits}  {line}: {}.\n", capital(why)),
         });
     }
 }
@@ -154,22 +217,18 @@ fn first_line(step: &Step) -> String {
 }
 
 fn tried(state: &State, frame: Frame, effect: impl FnOnce(&Step) -> String) -> Try {
-    let verdict = probe(state, &frame, |step| match step.answer {
-        Answer::Accepted(_) | Answer::Shown { .. } => Verdict::Yes(effect(step)),
-        Answer::Refused(question) => {
-            Verdict::No(step.line.to_string(), refusal::reason(step, question))
-        }
-        Answer::Lost => Verdict::No(
-            step.line.to_string(),
-            format!(
+    probe(state, &frame, |step| Try {
+        digits: digits_of(&frame),
+        words: one_line(&frame),
+        line: step.line.to_string(),
+        accepted: step.answer.is_accepted(),
+        why: match step.answer {
+            Answer::Accepted(_) | Answer::Shown { .. } => effect(step),
+            Answer::Refused(question) => refusal::told(step, question),
+            Answer::Lost => format!(
                 "the run would be lost, for {}",
                 crash::no_cover(step).join(", and ")
             ),
-        ),
-    });
-    Try {
-        digits: digits_of(&frame),
-        words: one_line(&frame),
-        verdict,
-    }
+        },
+    })
 }

@@ -21,10 +21,12 @@ pub mod words;
 pub mod ahead;
 pub mod state;
 
+pub mod data;
 pub mod handout;
 pub mod page;
 pub mod paper;
 pub mod picture;
+pub mod table;
 
 pub mod command;
 pub mod version;

@@ -38,6 +38,18 @@ pub fn escaped(bytes: &[u8]) -> String {
     text
 }
 
+/// At most so many characters, both ends of the text; a sign stands for what is left out between them.
+pub fn shortened(text: &str, most: usize) -> String {
+    let letters: Vec<char> = text.chars().collect();
+    if letters.len() <= most {
+        return text.to_string();
+    }
+    let kept = most.saturating_sub(1);
+    let tail = kept / 2;
+    let (first, last) = (&letters[..kept - tail], &letters[letters.len() - tail..]);
+    first.iter().chain(&['…']).chain(last).collect()
+}
+
 /// Text broken between words at `width` characters, every line indented.
 pub fn wrapped(text: &str, indent: usize, width: usize) -> String {
     let mut out = String::new();
@@ -95,6 +107,14 @@ mod tests {
         assert_eq!(shown(b"1201\r"), "1201\\r");
         assert_eq!(shown(b"\xFF0"), "\\xFF0");
         assert!(shown(&[b'0'; 300]).ends_with("0... (300 characters)"));
+    }
+
+    #[test]
+    fn shortened_with_a_sign() {
+        assert_eq!(shortened("→→→", 3), "→→→");
+        assert_eq!(shortened("→→→←", 3), "→…←");
+        assert_eq!(shortened("abcdefgh", 6), "abc…gh");
+        assert_eq!(shortened("", 3), "");
     }
 
     #[test]

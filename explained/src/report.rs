@@ -1,6 +1,7 @@
 //! The whole output: the text of a list, its story, and the first difference if there is one.
 
 use crate::lines::wrapped;
+use crate::notation::Places;
 use crate::picture::{Recorder, Story};
 use crate::play::{play, Difference, Step};
 use crate::words::{letter, words};
@@ -25,12 +26,12 @@ const INDENT: usize = 6;
 const WIDTH: usize = 100;
 
 /// Explains a list, given the engine's output for it. A difference ends the text, loudly.
-pub fn report(input: &[u8], engine: &[u8]) -> Report {
+pub fn report(input: &[u8], engine: &[u8], places: &Places) -> Report {
     let mut text = String::new();
     let mut recorder = Recorder::new();
     let mut used = BTreeSet::new();
     let result = play(input, engine, |step| {
-        put_step(&mut text, step);
+        put_step(&mut text, step, places);
         recorder.see(step);
         used.extend(step.answer.rule());
     });
@@ -46,8 +47,10 @@ pub fn report(input: &[u8], engine: &[u8]) -> Report {
     }
 }
 
-fn put_step(text: &mut String, step: &Step) {
-    text.push_str(&format!("{:>4}  {}\n", step.number, step.head()));
+fn put_step(text: &mut String, step: &Step, places: &Places) {
+    let Step { number, .. } = *step;
+    let place = places.beside(number);
+    text.push_str(&format!("{number:>4}{place}  {}\n", step.head()));
     for line in words(step) {
         text.push_str(&wrapped(&line, INDENT, WIDTH));
     }

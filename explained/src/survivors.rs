@@ -1,6 +1,6 @@
 //! How many crash sets the job at the head of a list survives: the counts compared, and why there are none.
 
-use crate::hints::hints;
+use crate::hints::faults;
 use crate::lines::{escaped, shown};
 use crate::notation::one_line;
 use crate::play::{play, say_loudly, Step};
@@ -66,10 +66,10 @@ pub fn notes(input: &[u8], digits: &[u8]) -> Vec<String> {
     // The first line meets no job, and these lines are the second implementation's own: they do not differ.
     let _ = play(head, &answer_all(head), |step| why = reason(step));
     match why {
-        None if head.is_empty() => hints(input),
+        None if head.is_empty() => faults(input),
         None => Vec::new(),
         Some(why) => {
-            let mut notes = hints(input);
+            let mut notes = faults(input);
             notes.push(format!(
                 "no counts, for the list begins with no acceptable job: {why}"
             ));

@@ -40,6 +40,7 @@ fn asked(list: &str, first: &str, later: &str) -> String {
 
 /// Chare 1 does its two again after a restart, and chare 2 the second of its own only then: each stands once, where it was first done.
 #[test]
+#[cfg_attr(not(library), ignore = "needs the engine's library")]
 fn the_row_of_a_list_with_a_restart() {
     let (status, out, error) = run(&["before", &file(CATCHING_UP)]);
     assert_eq!((status, error.as_str()), (0, ""));
@@ -91,6 +92,7 @@ work 3
 
 /// Each answer with what makes it so.
 #[test]
+#[cfg_attr(not(library), ignore = "needs the engine's library")]
 fn answers_in_words() {
     for (first, later, answer) in [
         ("1:1", "1:2", "yes. 1:1 is before 1:2 on chare 1."),
@@ -123,6 +125,7 @@ fn answers_in_words() {
 }
 
 #[test]
+#[cfg_attr(not(library), ignore = "needs the engine's library")]
 fn several_pairs_and_a_file() {
     let list = fresh("before").join("list.txt");
     fs::write(&list, WORDS).expect("a list");
@@ -163,7 +166,10 @@ fn all_pairs(list: &str, row: &[Processing]) -> Vec<(String, String, String)> {
             .flat_map(|(first, later)| [first.as_str(), later.as_str()]),
     );
     let (status, out, error) = run(&args);
-    assert_eq!((status, error.as_str()), (0, ""));
+    assert_eq!(status, 0);
+    // A list with garbled lines has a note.
+    let noted = error.starts_with("satuphir: note: ") && error.lines().count() == 1;
+    assert!(error.is_empty() || noted, "{error}");
     assert_eq!(out.lines().count(), pairs.len());
     let answer = |((first, later), line): (&(&String, &String), &str)| {
         let rest = line.strip_prefix(&format!("{first} before {later}: "));
@@ -176,6 +182,7 @@ fn all_pairs(list: &str, row: &[Processing]) -> Vec<(String, String, String)> {
 
 /// Of every pair of every stored list: what the closure of the second implementation says of the row that the list's words tell.
 #[test]
+#[cfg_attr(not(library), ignore = "needs the engine's library")]
 fn every_pair_of_every_stored_list() {
     let (mut yes, mut no) = (0, 0);
     for list in names() {
@@ -218,6 +225,7 @@ fn long_list(count: u16) -> String {
 
 /// 512 are answered, 513 are bad there, and the words say what that means.
 #[test]
+#[cfg_attr(not(library), ignore = "needs the engine's library")]
 fn rows_that_are_too_long() {
     let list = long_list(512);
     assert_eq!(
@@ -254,6 +262,7 @@ fn rows_that_are_too_long() {
 }
 
 #[test]
+#[cfg_attr(not(library), ignore = "needs the engine's library")]
 fn lists_without_a_processing() {
     let none = (
         0,
@@ -277,6 +286,7 @@ fn lists_without_a_processing() {
 
 /// A second job is refused, so the row goes on.
 #[test]
+#[cfg_attr(not(library), ignore = "needs the engine's library")]
 fn a_second_job() {
     let list = fs::read_to_string(file(CATCHING_UP)).expect("a list");
     let job = list.lines().next().expect("a job");

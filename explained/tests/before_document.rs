@@ -14,6 +14,7 @@ const EXAMPLE: &str = "09-catching-up";
 
 /// Each call, as typed, gives what is shown below it.
 #[test]
+#[cfg_attr(not(library), ignore = "needs the engine's library")]
 fn the_calls() {
     let text = document(DOCUMENT);
     let (calls, shown) = (blocks(&text, "sh"), blocks(&text, "text"));

@@ -11,6 +11,7 @@ use std::path::Path;
 use std::process::{Command, Stdio};
 
 #[test]
+#[cfg_attr(not(library), ignore = "needs the engine's library")]
 fn the_example_in_c_gives_the_lines() {
     let program = compiled(&example("play.c"));
     let file = |name: &str, end: &str| folder().join(format!("{name}.{end}"));
@@ -57,6 +58,7 @@ fn given(program: &Path, input: &[u8]) -> Vec<u8> {
 }
 
 #[test]
+#[cfg_attr(not(library), ignore = "needs the engine's library")]
 fn the_example_in_c_counts_crash_sets() {
     let program = compiled(&example("survivors.c"));
     for name in names() {
@@ -82,6 +84,7 @@ fn the_example_in_c_counts_crash_sets() {
 
 /// With one byte less than the header asks for nothing is written, not even for a job of two machines.
 #[test]
+#[cfg_attr(not(library), ignore = "needs the engine's library")]
 fn too_little_room_for_the_counts() {
     let source = fresh("c-source").join("room.c");
     fs::write(&source, ROOM).expect("a source");

@@ -9,6 +9,7 @@ use std::path::Path;
 use std::process::Command;
 
 #[test]
+#[cfg_attr(not(library), ignore = "needs the engine's library")]
 fn the_example_in_pieces_gives_the_lines() {
     let program = compiled(&example("pieces.c"));
     for name in names() {

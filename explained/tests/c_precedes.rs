@@ -49,6 +49,7 @@ fn check_pairs(program: &Path, row: &[Processing], names: &[Name]) {
 }
 
 #[test]
+#[cfg_attr(not(library), ignore = "needs the engine's library")]
 fn the_example_in_c_says_what_came_before() {
     let program = compiled(&example("precedes.c"));
     for name in names() {
@@ -161,6 +162,7 @@ fn notices_a_row_that_cannot_be_read_or_answered(program: &Path) {
 
 /// A record has the same bytes in C and in Rust.
 #[test]
+#[cfg_attr(not(library), ignore = "needs the engine's library")]
 fn the_layout_of_a_record() {
     let source = fresh("c-layout").join("record.c");
     fs::write(&source, RECORD).expect("a source");

@@ -63,6 +63,7 @@ fn help_is_on_standard_output() {
 }
 
 #[test]
+#[cfg_attr(not(library), ignore = "needs the engine's library")]
 fn play_gives_the_lines() {
     for name in common::names() {
         let (status, out, _) = run(&["play", &file(&name)]);
@@ -71,12 +72,11 @@ fn play_gives_the_lines() {
 }
 
 #[test]
+#[cfg_attr(not(library), ignore = "needs the engine's library")]
 fn every_subcommand_takes_words_and_digits() {
     let digits = "0102020201010200020000\n1001000301\n110100010001\n110200010001\n110300010001\n1201\n1401\n1601\n";
     for args in [
         &["play", "-"][..],
-        &["explain", "-"],
-        &["state", "6", "-"],
         &["next", "-"],
         &["survivors", "-"],
         &["before", "-"],
@@ -87,6 +87,20 @@ fn every_subcommand_takes_words_and_digits() {
         assert_eq!(in_words, in_digits, "{args:?}");
         assert_eq!(in_words.0, 0);
         said_nothing(&in_words.2);
+    }
+    // Of words the line in the list is told too.
+    for args in [&["explain", "-"][..], &["state", "6", "-"]] {
+        let (status, out, error) = fed(args, WORDS.as_bytes());
+        let mut told = String::new();
+        for (at, part) in out.split(" (line ").enumerate() {
+            told.push_str(if at == 0 {
+                part
+            } else {
+                &part[part.find(')').expect("an end") + 1..]
+            });
+        }
+        let want = fed(args, digits.as_bytes());
+        assert_eq!((status, told, error), want, "{args:?}");
     }
     let (_, out, _) = fed(&["play", "-"], WORDS.as_bytes());
     assert_eq!(out, "00J\n00J\n00C\n00G\n00H\n00J\n00J\n05\n");
@@ -109,6 +123,7 @@ fn every_subcommand_takes_words_and_digits() {
 }
 
 #[test]
+#[cfg_attr(not(library), ignore = "needs the engine's library")]
 fn explain_gives_words() {
     let (status, out, error) = run(&["explain", &file(NAME)]);
     assert_eq!((status, out), (0, explained(&list(NAME)).text));
@@ -116,6 +131,7 @@ fn explain_gives_words() {
 }
 
 #[test]
+#[cfg_attr(not(library), ignore = "needs the engine's library")]
 fn explain_gives_a_picture_too() {
     let out = fresh("explain-picture").join("out.svg");
     let out = out.to_str().expect("a name");
@@ -128,6 +144,7 @@ fn explain_gives_a_picture_too() {
 
 /// Options may stand after the list, and before the subcommand.
 #[test]
+#[cfg_attr(not(library), ignore = "needs the engine's library")]
 fn options_stand_anywhere() {
     let out = fresh("options").join("out.svg");
     let out = out.to_str().expect("a name");
@@ -143,6 +160,7 @@ fn options_stand_anywhere() {
 }
 
 #[test]
+#[cfg_attr(not(library), ignore = "needs the engine's library")]
 fn picture_and_its_pages() {
     let folder = fresh("pictures");
     let at = |name: &str| folder.join(name);
@@ -173,12 +191,13 @@ fn picture_and_its_pages() {
 }
 
 #[test]
+#[cfg_attr(not(library), ignore = "needs the engine's library")]
 fn state_shows_all_that_stands() {
     let (status, out, error) = fed(&["state", "6", "-"], WORDS.as_bytes());
     assert_eq!(status, 0);
     said_nothing(&error);
     for want in [
-        "After frame 6:  1201  work 1  ->  00J\nRule J (any other accepted frame): ",
+        "After frame 6 (line 10):  1201  work 1  ->  00J\nRule J (any other accepted frame): ",
         "    machine 1: up\n",
         "  * height 1, state 00000023 (before: height 0, state 00000001)\n",
         "  * worked of the desk: mark 1, window empty\n",
@@ -207,6 +226,7 @@ fn state_shows_all_that_stands() {
 
 /// Holes, notes, windows and the TN to reach.
 #[test]
+#[cfg_attr(not(library), ignore = "needs the engine's library")]
 fn state_shows_what_is_rarer() {
     for (name, frame, want) in [
         ("08-holes", "17", "  * hole: TN 3\n"),
@@ -264,71 +284,7 @@ fn state_shows_what_is_rarer() {
 }
 
 #[test]
-fn next_says_what_is_accepted_and_what_is_blocked() {
-    let (status, out, error) = fed(&["next", "-"], WORDS.as_bytes());
-    assert_eq!(status, 0);
-    said_nothing(&error);
-    for want in [
-        "Packets that can be delivered\n  deliver ASK 1>2 #1       110101020001  Rule C, new ticket: chare 2 gives it TN 1 ",
-        "Works that are blocked\n  work 1                   1201  05: Machine 1 is down.\n",
-        "  work 2                   1202  06: Chare 2 has given no TN 1.\n",
-        "  restart 1                1501  Restart: ",
-        "FF: The run would be lost, for machine 1 is down, and machine 1, the buddy, does not hold its copy.\n",
-    ] {
-        assert!(out.contains(want), "nowhere: {want}\n{out}");
-    }
-    let (_, out, _) = fed(&["next", "-"], b"1201\n");
-    assert!(out.contains("No job is set"), "{out}");
-    // Of two injections to a chare the last one is told, of a chare without any nothing.
-    let words = "job 2 machines\nchare 1 on 1\nchare 2 on 2\nchare 3 on 2\ninject 1 value 3 hops 0\ninject 1 value 4 hops 0\n\
-                 inject 2 value 5 hops 0\ndeliver ASK 0>2 #1\n";
-    let (_, out, _) = fed(&["next", "-"], words.as_bytes());
-    let want = "\nInjections that can be withdrawn\n  withdraw 1               1701  Withdraw: the desk takes 0→1 #2 \
-                (value 4 (hex 0004), hops 0), its last message to chare 1, out of its log.\n\
-                \nInjections that cannot be withdrawn\n  withdraw 2               1702  12: ASK 0→2 #1 is no longer on the wire; \
-                it was delivered, and the table of chare 2 has its ticket, TN 1.\n\nThe desk, for instance\n";
-    assert!(out.contains(want), "{out}");
-    let full = list("11-full-window");
-    let full: Vec<&[u8]> = full.split_inclusive(|&b| b == b'\n').take(676).collect();
-    let (_, out, _) = fed(&["next", "-"], &full.concat());
-    let want = "Packets that are blocked\n  deliver ASK 0>1 #129     110100010081  08: SN 129 is 1 beyond mark 0 + 128.\n";
-    assert!(out.contains(want), "{out}");
-    let (_, out, _) = run(&["next", &file("00-the-rule-books-sitting")]);
-    assert!(out.contains("The run was lost at frame 13"), "{out}");
-}
-
-/// What `next` says of a frame is what the frame then gets: a number or FF, the letter of its rule, or J where it names none.
-#[test]
-fn next_is_true() {
-    use reference::generator;
-    for seed in 0..40 {
-        let mut list = generator::list(seed, 120);
-        if !list.ends_with(b"\n") {
-            list.push(b'\n');
-        }
-        let (_, out, _) = fed(&["next", "-"], &list);
-        for line in out.lines().filter(|line| line.starts_with("  ")) {
-            let words: Vec<&str> = line[26..].split_whitespace().collect();
-            // Short words leave two blanks before the digits, long ones one.
-            let digits = words
-                .iter()
-                .find(|word| word.bytes().all(|b| b.is_ascii_hexdigit()));
-            let digits = digits.expect("a frame");
-            let at = words.iter().position(|word| word == digits).expect("there");
-            let whole = [&list[..], digits.as_bytes(), b"\n"].concat();
-            let answers = lines(&whole);
-            let answer = answers.lines().last().expect("a line");
-            let said = match words[at + 1..] {
-                ["Rule", letter, ..] => format!("00{}", letter.trim_end_matches(',')),
-                [word, ..] if word.len() == 3 && word.ends_with(':') => word[..2].to_string(),
-                _ => "00J".to_string(),
-            };
-            assert_eq!(answer, said, "seed {seed}: {line}");
-        }
-    }
-}
-
-#[test]
+#[cfg_attr(not(library), ignore = "needs the engine's library")]
 fn page_is_written() {
     let out = fresh("page").join("out.html");
     let (status, said, error) = run(&["page", &file(NAME), out.to_str().expect("a name")]);
@@ -341,6 +297,7 @@ fn page_is_written() {
 
 /// Every run with `--quick` says that its lines are not the proved engine's.
 #[test]
+#[cfg_attr(not(library), ignore = "needs the engine's library")]
 fn quick_says_so() {
     let folder = fresh("quick");
     let list_file = file(NAME);

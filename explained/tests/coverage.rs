@@ -138,11 +138,14 @@ fn outcomes_of_examples_and_random_lists() {
     check(
         &text,
         &[
-            "is a hole.",
+            "is a hole",
             "has given no TN",
-            "is not received.",
-            "is not noted.",
+            "is not received; DATA ",
+            "is not noted; NOTE ",
             "on the wire.",
+            "is still on the wire.",
+            "are still on the wire.",
+            "is not sent yet.",
             " beyond mark ",
             "the log of the desk holds",
             "the table of chare",

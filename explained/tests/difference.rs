@@ -1,6 +1,8 @@
 //! A line that differs from the engine's is told loudly.
 
 use explained::before::Wrong;
+use explained::data::Source;
+use explained::notation::Places;
 use explained::play::{play, Difference};
 use explained::report::report;
 
@@ -9,7 +11,7 @@ const LINES: &[u8] = b"00J\n00J\n00000000000001J\n";
 
 #[test]
 fn equal_lines_are_quiet() {
-    let report = report(LIST, LINES);
+    let report = report(LIST, LINES, &Places::default());
     assert_eq!(report.difference, None);
     assert_eq!(report.status(), 0);
     assert!(!report.text.contains("!!!"));
@@ -17,7 +19,7 @@ fn equal_lines_are_quiet() {
 
 #[test]
 fn the_message_names_the_frame_and_both_lines() {
-    let report = report(LIST, b"00J\n09\n00000000000001J\n");
+    let report = report(LIST, b"00J\n09\n00000000000001J\n", &Places::default());
     let want = Difference {
         number: 2,
         frame: "1001000301".to_string(),
@@ -75,12 +77,23 @@ fn letters_that_differ() {
 /// Whatever is made of a list says where the lines differ.
 #[test]
 fn states_and_pages_tell_of_a_difference() {
-    let wrong = b"00J\n09\n00000000000001J\n";
-    match explained::state::after(LIST, wrong, 1) {
+    let (wrong, places) = (b"00J\n09\n00000000000001J\n", Places::default());
+    match explained::state::after(LIST, wrong, 1, &places) {
         Err(explained::state::Wrong::Difference(difference)) => assert_eq!(difference.number, 2),
         _ => panic!("no difference"),
     }
-    let difference = explained::ahead::next(LIST, wrong).expect_err("a difference");
+    match explained::ahead::next(LIST, wrong, None, &places) {
+        Err(explained::state::Wrong::Difference(difference)) => assert_eq!(difference.number, 2),
+        _ => panic!("no difference"),
+    }
+    let difference = explained::table::table(LIST, wrong, &places).expect_err("a difference");
+    assert_eq!(difference.number, 2);
+    let source = Source {
+        digits: LIST,
+        quick: false,
+        places: &places,
+    };
+    let difference = source.play(wrong).expect_err("a difference");
     assert_eq!(difference.number, 2);
     let page = explained::page::page("a list", "wrong", LIST, wrong, None).expect("a page");
     match page.wrong {

@@ -6,7 +6,7 @@ use common::documents::{blocks, document, flowing, plain, root, rows};
 use common::list;
 use common::run::{fed, fresh, run};
 use explained::names::joined;
-use explained::notation::{decode, encode};
+use explained::notation::{decode, digits};
 use explained::words::letter;
 use reference::answer::{Answer, Rule};
 use reference::limits::{LOG_SIZE, NOTES_SIZE, TABLE_SIZE, WINDOW_BITS, WIRE_SIZE};
@@ -25,6 +25,7 @@ fn own_list() -> String {
 }
 
 #[test]
+#[cfg_attr(not(library), ignore = "needs the engine's library")]
 fn the_sitting_of_readme() {
     let list = own_list();
     let (status, lines, _) = fed(&["play", "-"], list.as_bytes());
@@ -47,11 +48,12 @@ fn the_sitting_of_readme() {
 
 /// Every call of README, as typed, but for the building.
 #[test]
+#[cfg_attr(not(library), ignore = "needs the engine's library")]
 fn the_calls_of_readme() {
     let folder = fresh("readme");
     fs::write(folder.join("mine.txt"), own_list()).expect("a list");
     // Any list will do for the random one.
-    fs::write(folder.join("exam.in"), list("05-crash-with-cover")).expect("a list");
+    fs::write(folder.join("exam.txt"), list("05-crash-with-cover")).expect("a list");
     let readme = document("README.md");
     let calls = blocks(&readme, "sh").into_iter().flat_map(str::lines);
     let named = |line: &str| line.contains("mine") || line.contains("exam");
@@ -112,6 +114,7 @@ fn the_table_of_readme() {
 
 /// The row of the crash without cover has each reason that `explain` gives.
 #[test]
+#[cfg_attr(not(library), ignore = "needs the engine's library")]
 fn the_reasons_in_readmes_table() {
     let rule_book = root().join("examples/00-the-rule-books-sitting.in");
     let (_, text, _) = run(&["explain".as_ref(), rule_book.as_os_str()]);
@@ -166,7 +169,7 @@ fn the_frames_of_the_rules() {
         let words = plain(&row[0])
             .replace(" with ", "\n")
             .replace(", chare", "\nchare");
-        let digits = encode(words.as_bytes()).expect("a frame");
+        let digits = digits(words.as_bytes()).expect("a frame");
         assert_eq!(
             String::from_utf8_lossy(&digits).trim_end(),
             plain(&row[1]),

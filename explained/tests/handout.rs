@@ -29,7 +29,10 @@ fn written(name: &str, list: &[u8], more: &[&str]) -> String {
         .chain(more.iter().copied())
         .collect();
     let (status, said, error) = fed(&args, list);
-    assert_eq!((status, said.as_str(), error.as_str()), (0, "", ""));
+    assert_eq!((status, said.as_str()), (0, ""), "{error}");
+    // A list with garbled lines has a note.
+    let noted = error.starts_with("satuphir: note: ") && error.lines().count() == 1;
+    assert!(error.is_empty() || noted, "{error}");
     fs::read_to_string(out).expect("a handout")
 }
 
@@ -76,6 +79,7 @@ fn the_handout_has_blanks() {
 }
 
 #[test]
+#[cfg_attr(not(library), ignore = "needs the engine's library")]
 fn the_key_has_the_lines() {
     let html = written("handout-key", LIST.as_bytes(), &["--key"]);
     let rows = rows(&html);
@@ -90,6 +94,7 @@ fn the_key_has_the_lines() {
 }
 
 #[test]
+#[cfg_attr(not(library), ignore = "needs the engine's library")]
 fn the_explained_key_has_the_words() {
     for more in [&["--explained"][..], &["--key", "--explained"]] {
         let html = written("handout-explained", LIST.as_bytes(), more);
@@ -97,7 +102,7 @@ fn the_explained_key_has_the_words() {
         assert_eq!(rows[3][2], "06");
         assert_eq!(
             rows[3][1],
-            "<p>work 1</p><p class=\"words\">Refused by question 6, &quot;is the next TN received and noted?&quot;: TN 1, 0→1 #1, is not received.</p>"
+            "<p>work 1</p><p class=\"words\">Refused by question 6, &quot;is the next TN received and noted?&quot;: TN 1, 0→1 #1, is not received; GRANT 0→1 #1 is still on the wire.</p>"
         );
         assert!(rows[6][1].ends_with("<p class=\"words\">Show: chare 2 has worked nothing, height 0 (hex 0000); its state is 00000002.</p>"));
         assert!(html.contains("<h1>standard input: key, explained</h1>"));
@@ -106,6 +111,7 @@ fn the_explained_key_has_the_words() {
 
 /// The lines of a key are the second implementation's for the list, and for a show of each chare after it.
 #[test]
+#[cfg_attr(not(library), ignore = "needs the engine's library")]
 fn keys_of_the_examples() {
     for name in names() {
         let input = list(&name);
@@ -118,7 +124,7 @@ fn keys_of_the_examples() {
         for row in &rows[cut(&input).len()..] {
             let words = row[1].replace("<p>", "").replace("</p>", "");
             assert!(words.starts_with("show "), "{name}: {words}");
-            shown.extend(notation::encode(format!("{words}\n").as_bytes()).expect("a show"));
+            shown.extend(notation::digits(format!("{words}\n").as_bytes()).expect("a show"));
         }
         let lines = answer_all(&shown);
         let lines = String::from_utf8(lines).expect("digits");
@@ -129,6 +135,7 @@ fn keys_of_the_examples() {
 
 /// Handout and key belong together by the hash of the list, which is that of its digits.
 #[test]
+#[cfg_attr(not(library), ignore = "needs the engine's library")]
 fn both_say_from_which_list() {
     let digits = notation::digits(LIST.as_bytes()).expect("a list");
     let hash = version::hash(&digits);
@@ -143,6 +150,7 @@ fn both_say_from_which_list() {
 
 /// A list without an accepted job has no chare, and so no end.
 #[test]
+#[cfg_attr(not(library), ignore = "needs the engine's library")]
 fn no_job_no_end() {
     for list in [&b"1601\n"[..], b""] {
         let out = fresh("handout-no-job").join("out.html");

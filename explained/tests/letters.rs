@@ -4,6 +4,7 @@ mod common;
 
 use common::svg::{number, place, places, said, shapes};
 use common::{drawn, explained, list, names};
+use explained::notation::Places;
 use explained::page::page;
 use explained::words::letter::HEADING;
 use explained::{ahead, engine, state};
@@ -191,7 +192,8 @@ fn letters_stand_over_a_state() {
         let list = list(name);
         let lines = String::from_utf8(engine::lines(&list)).expect("text");
         for (at, line) in lines.lines().enumerate() {
-            let text = state::after(&list, lines.as_bytes(), at + 1).expect("a state");
+            let text =
+                state::after(&list, lines.as_bytes(), at + 1, &Places::default()).expect("a state");
             let mut text = text.lines();
             let head = text.next().expect("a frame");
             assert!(head.ends_with(&format!("  ->  {line}")), "{head}");
@@ -218,7 +220,8 @@ fn letters_are_told_ahead() {
         let digits = String::from_utf8_lossy(frames[at]);
         let digits = format!(" {}  ", digits.trim_end());
         let before = frames[..at].concat();
-        let next = ahead::next(&before, &engine::lines(&before)).expect("what comes next");
+        let next = ahead::next(&before, &engine::lines(&before), None, &Places::default())
+            .expect("what comes next");
         let Some((_, words)) = next.split_once(&digits) else {
             continue; // A job and a show are not told.
         };

@@ -5,7 +5,7 @@ mod common;
 use common::documents::{blocks, document};
 use common::run::fresh;
 use common::seen::seen;
-use explained::notation::{decode, encode};
+use explained::notation::{self, decode};
 use reference::answer::{Answer, Question};
 use reference::frame::Frame;
 use reference::reader::answer_all;
@@ -184,7 +184,7 @@ fn words() {
         let digits = given(args);
         let words = given(&[args, &["--words"]].concat());
         assert_eq!(String::from_utf8_lossy(&words), decode(&digits), "{args:?}");
-        let back = encode(&words).expect("words");
+        let back = notation::digits(&words).expect("words");
         assert_eq!(answer_all(&back), answer_all(&digits), "{args:?}");
     }
 }
@@ -277,6 +277,7 @@ fn help() {
 
 /// What README shows to examiners, as typed there.
 #[test]
+#[cfg_attr(not(library), ignore = "needs the engine's library")]
 fn the_calls_of_readme() {
     let folder = fresh("readme-lists");
     fs::create_dir(folder.join("tools")).expect("a folder");
@@ -302,7 +303,7 @@ fn the_calls_of_readme() {
     for name in ["exam.txt", "exam-1.txt", "exam-2.txt", "exam-3.txt"] {
         assert!(readme.contains(&format!("`{name}`")) || name == "exam.txt");
         let words = fs::read(folder.join(name)).expect("a list");
-        let seen = seen(&encode(&words).expect("words"));
+        let seen = seen(&notation::digits(&words).expect("words"));
         assert_eq!((seen.machines, seen.chares), (3, 4), "{name}");
         assert!(seen.grants_lost > 0 && seen.holes > 0 && seen.garbled == 0);
         assert!(seen.values.iter().all(|value| (1..=9).contains(value)));

@@ -170,7 +170,7 @@ fn commands() {
         .lines()
         .filter_map(|line| Some(line.split_once(':')?.0.to_string()))
         .collect();
-    all_there(&documents(), 3, |look, text| {
+    all_there(&documents(), 2, |look, text| {
         for command in ["rt check", "rt must-fail", "rt staticlib"] {
             look.after(text, command, &crates);
         }

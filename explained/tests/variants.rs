@@ -4,7 +4,7 @@ mod common;
 
 use common::run::{fed, fresh, result, run, satuphir};
 use common::{list, names};
-use explained::notation::{decode, encode};
+use explained::notation::{self, decode};
 use reference::exam::{wished, Wish};
 use reference::frame::{parse, Frame};
 use reference::generator;
@@ -106,6 +106,7 @@ fn other_values_alone() {
 
 /// The engine checks the lines, and the lists are the same.
 #[test]
+#[cfg_attr(not(library), ignore = "needs the engine's library")]
 fn with_the_engine() {
     let list = exam(3, false);
     let (status, out, error) = fed(&["variants", "-", "5"], &list);
@@ -120,7 +121,12 @@ fn the_form_of_the_list() {
         let digits = list(&name);
         let (status, out, error) = quick(&["1", "--seed", "9"], &digits);
         let (in_words, text, said) = quick(&["1", "--seed", "9"], decode(&digits).as_bytes());
-        assert_eq!((status, &error), (in_words, &said), "{name}");
+        // Garbled lines have a note of their own in digits.
+        let error = error
+            .lines()
+            .filter(|line| !line.contains("neither digits nor words"));
+        let error: String = error.map(|line| line.to_string() + "\n").collect();
+        assert_eq!((status, error), (in_words, said), "{name}");
         assert_eq!(decode(out.as_bytes()), text, "{name}");
         let injects = values(&digits).len();
         assert_eq!(status, if injects > 0 { 0 } else { 2 }, "{name}");
@@ -129,7 +135,7 @@ fn the_form_of_the_list() {
     let list =
         "job 2 machines\nchare 1 on 1 # the only one\n\ninject 1 value 0x07 hops 0 # seven\n";
     let (status, text, _) = quick(&["1"], list.as_bytes());
-    let digits = quick(&["1"], &encode(list.as_bytes()).expect("a list")).1;
+    let digits = quick(&["1"], &notation::digits(list.as_bytes()).expect("a list")).1;
     assert_eq!((status, text), (0, decode(digits.as_bytes())));
 }
 

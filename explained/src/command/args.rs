@@ -9,13 +9,15 @@ use std::ffi::{OsStr, OsString};
 #[derive(Clone, Copy, Debug, PartialEq, Eq)]
 pub enum Task {
     Help,
+    Version,
     Play,
     Explain,
     Picture,
     Page,
     Handout(Sort),
     State(usize),
-    Next,
+    /// After so many frames, or after all of the list.
+    Next(Option<usize>),
     Survivors,
     Before,
     Variants,
@@ -27,8 +29,11 @@ pub struct Asked {
     pub task: Task,
     pub quick: bool,
     pub pages: bool,
+    /// The lines as a table, or any output as JSON.
+    pub table: bool,
+    pub json: bool,
     pub list: OsString,
-    /// The file to write, for a picture, a page or a handout; for variants also a folder.
+    /// The file to write, for a picture, a page or a handout, `-` being standard output; for variants also a folder.
     pub out: Option<OsString>,
     /// How many variants, and of which seed.
     pub count: usize,
@@ -41,8 +46,11 @@ pub struct Asked {
 #[derive(Default)]
 struct Options {
     help: bool,
+    version: bool,
     quick: bool,
     pages: bool,
+    table: bool,
+    json: bool,
     key: bool,
     explained: bool,
     picture: Option<OsString>,
@@ -67,10 +75,12 @@ fn usage<T>(message: String) -> Result<T, Failure> {
 impl Asked {
     pub fn new(given: Vec<OsString>) -> Result<Asked, Failure> {
         let (options, words) = sort(given)?;
-        let help = Asked {
-            task: Task::Help,
+        let alone = |task: Task| Asked {
+            task,
             quick: false,
             pages: false,
+            table: false,
+            json: false,
             list: OsString::new(),
             out: None,
             count: 0,
@@ -78,7 +88,10 @@ impl Asked {
             pairs: Vec::new(),
         };
         if options.help {
-            return Ok(help);
+            return Ok(alone(Task::Help));
+        }
+        if options.version {
+            return Ok(alone(Task::Version));
         }
         let mut words = words.into_iter();
         let Some(name) = words.next() else {
@@ -88,15 +101,18 @@ impl Asked {
             Some(word) => Ok(word),
             None => usage(format!("{} needs {what}", name.to_string_lossy())),
         };
-        let task = match name.to_str() {
-            Some("help") => return Ok(help),
+        let mut task = match name.to_str() {
+            Some("help") => return Ok(alone(Task::Help)),
             Some("play") => Task::Play,
             Some("explain") => Task::Explain,
             Some("picture") => Task::Picture,
             Some("page") => Task::Page,
             Some("handout") => Task::Handout(options.handout()),
-            Some("state") => Task::State(frame(&word("the number of a frame, and a list")?)?),
-            Some("next") => Task::Next,
+            Some("state") => Task::State(frame(
+                &word("the number of a frame, and a list")?,
+                "state N LIST",
+            )?),
+            Some("next") => Task::Next(None),
             Some("survivors") => Task::Survivors,
             Some("before") => Task::Before,
             Some("variants") => Task::Variants,
@@ -109,7 +125,7 @@ impl Asked {
                 ))
             }
         };
-        let list = word("a list (a file, or - for standard input)")?;
+        let mut list = word("a list (a file, or - for standard input)")?;
         let out = match task {
             Task::Picture => Some(word("a file to write, such as out.svg")?),
             Task::Page | Task::Handout(_) => Some(word("a file to write, such as out.html")?),
@@ -125,6 +141,11 @@ impl Asked {
             Task::Before => pairs(words.by_ref())?,
             _ => Vec::new(),
         };
+        // Of two words, the first is the number.
+        if task == Task::Next(None) && words.len() > 0 {
+            task = Task::Next(Some(frame(&list, "next N LIST")?));
+            list = words.next().unwrap_or_default();
+        }
         if let Some(more) = words.next() {
             return usage(format!("\"{}\" is too much", more.to_string_lossy()));
         }
@@ -133,6 +154,15 @@ impl Asked {
         }
         if options.pages && task != Task::Picture {
             return usage("--pages goes with picture alone".to_string());
+        }
+        if options.table && task != Task::Play {
+            return usage("--table goes with play alone".to_string());
+        }
+        if options.json && !matches!(task, Task::Play | Task::State(_) | Task::Next(_)) {
+            return usage("--json goes with play, state and next alone".to_string());
+        }
+        if options.table && options.json {
+            return usage("--table and --json do not go together".to_string());
         }
         if (options.seed.is_some() || options.out.is_some()) && task != Task::Variants {
             return usage("--seed and --out go with variants alone".to_string());
@@ -144,6 +174,8 @@ impl Asked {
             task,
             quick: options.quick,
             pages: options.pages,
+            table: options.table,
+            json: options.json,
             list,
             out,
             count,
@@ -156,7 +188,7 @@ impl Asked {
     pub fn needs_engine(&self) -> bool {
         let needs_none = matches!(
             self.task,
-            Task::Help | Task::Encode | Task::Decode | Task::Handout(Sort::Blank)
+            Task::Help | Task::Version | Task::Encode | Task::Decode | Task::Handout(Sort::Blank)
         );
         !self.quick && !needs_none
     }
@@ -172,8 +204,11 @@ fn sort(given: Vec<OsString>) -> Result<(Options, Vec<OsString>), Failure> {
                 words.extend(given.by_ref());
             }
             Some("--help" | "-h") => options.help = true,
+            Some("--version" | "-V") => options.version = true,
             Some("--quick") => options.quick = true,
             Some("--pages") => options.pages = true,
+            Some("--table") => options.table = true,
+            Some("--json") => options.json = true,
             Some("--key") => options.key = true,
             Some("--explained") => options.explained = true,
             Some("--picture") => match given.next() {
@@ -203,11 +238,11 @@ fn is_option(word: &OsStr) -> bool {
     bytes.len() > 1 && bytes[0] == b'-'
 }
 
-fn frame(word: &OsStr) -> Result<usize, Failure> {
+fn frame(word: &OsStr, call: &str) -> Result<usize, Failure> {
     match word.to_str().and_then(|word| word.parse().ok()) {
         Some(number) => Ok(number),
         None => usage(format!(
-            "\"{}\" is no number of a frame: state N LIST, N from 0",
+            "\"{}\" is no number of a frame: {call}, N from 0",
             word.to_string_lossy()
         )),
     }

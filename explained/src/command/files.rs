@@ -1,7 +1,9 @@
 //! Reading a list, writing a result. Every failure is named.
 
 use super::Failure;
-use crate::notation;
+use crate::names::count;
+use crate::notation::{self, List, Mistakes};
+use std::env;
 use std::ffi::{OsStr, OsString};
 use std::fs;
 use std::io::{self, Read, Write};
@@ -12,15 +14,27 @@ fn named(name: &OsStr, error: &io::Error) -> Failure {
     Failure::File(format!("{}: {error}", name.to_string_lossy()))
 }
 
-pub fn is_standard_input(list: &OsStr) -> bool {
-    list == "-"
+/// Standard input for a list, standard output for a result.
+pub fn is_standard(name: &OsStr) -> bool {
+    name == "-"
+}
+
+/// A Rust program cannot tell a closed input from an empty one: tools/satuphir looks, and says so here.
+pub fn look_at_input() -> Result<(), Failure> {
+    match env::var_os("SATUPHIR_INPUT") {
+        Some(input) if input == "closed" => {
+            Err(Failure::File("standard input: it is closed".to_string()))
+        }
+        _ => Ok(()),
+    }
 }
 
 /// The list as it stands, in either form.
 pub fn read(list: &OsStr) -> Result<Vec<u8>, Failure> {
-    if !is_standard_input(list) {
+    if !is_standard(list) {
         return fs::read(list).map_err(|error| named(list, &error));
     }
+    look_at_input()?;
     let mut input = Vec::new();
     match io::stdin().lock().read_to_end(&mut input) {
         Ok(_) => Ok(input),
@@ -28,13 +42,24 @@ pub fn read(list: &OsStr) -> Result<Vec<u8>, Failure> {
     }
 }
 
-/// The list in digits; a mistake in its words is named with line and column.
-pub fn digits(list: &OsStr, input: &[u8]) -> Result<Vec<u8>, Failure> {
-    notation::digits(input).map_err(|error| Failure::File(format!("{}, {error}", shown(list))))
+/// So many mistakes are told one by one.
+const TOLD: usize = 100;
+
+/// The list as it is played; every mistake in its words is named with line and column.
+pub fn list(list: &OsStr, input: &[u8]) -> Result<List, Failure> {
+    notation::read(input).map_err(|Mistakes(mistakes)| {
+        let told = mistakes.iter().take(TOLD);
+        let mut told: Vec<String> = told.map(|m| format!("{}, {m}", shown(list))).collect();
+        if mistakes.len() > TOLD {
+            let more = mistakes.len() - TOLD;
+            told.push(format!("{}: {}", shown(list), count(more, "more mistake")));
+        }
+        Failure::File(told.join("\nsatuphir: "))
+    })
 }
 
 pub fn shown(list: &OsStr) -> String {
-    match is_standard_input(list) {
+    match is_standard(list) {
         true => "standard input".to_string(),
         false => list.to_string_lossy().into_owned(),
     }
@@ -43,7 +68,7 @@ pub fn shown(list: &OsStr) -> String {
 /// What a picture or a page is called: the list's name without folder and ending.
 pub fn title(list: &OsStr) -> String {
     match Path::new(list).file_stem() {
-        Some(stem) if !is_standard_input(list) => stem.to_string_lossy().into_owned(),
+        Some(stem) if !is_standard(list) => stem.to_string_lossy().into_owned(),
         _ => "standard input".to_string(),
     }
 }
@@ -75,8 +100,35 @@ pub fn look_at_folder(out: &OsStr) -> Result<(), Failure> {
     }
 }
 
+/// Endings of what a picture, which is SVG, or a page, which is HTML, is not.
+const OTHERS: [&str; 13] = [
+    "png", "jpg", "jpeg", "gif", "webp", "bmp", "tif", "tiff", "pdf", "ps", "eps", "doc", "docx",
+];
+
+/// A result must not be called what it is not.
+pub fn look_at_ending(out: &OsStr, is_picture: bool) -> Result<(), Failure> {
+    let (what, format, own, other) = match is_picture {
+        true => ("picture", "SVG", "svg", &["html", "htm"][..]),
+        false => ("page", "HTML", "html", &["svg"][..]),
+    };
+    let ending = Path::new(out).extension().unwrap_or_default();
+    let mut others = OTHERS.iter().chain(other);
+    if !others.any(|other| ending.eq_ignore_ascii_case(other)) {
+        return Ok(());
+    }
+    let better = Path::new(out).with_extension(own);
+    Err(Failure::Usage(format!(
+        "a {what} is written as {format}, not as {}: {} would do (a browser opens and prints it)",
+        ending.to_string_lossy().to_uppercase(),
+        better.display()
+    )))
+}
+
 pub fn write(out: &OsStr, text: impl AsRef<[u8]>) -> Result<(), Failure> {
-    fs::write(out, text).map_err(|error| named(out, &error))
+    match is_standard(out) {
+        true => print(text.as_ref()),
+        false => fs::write(out, text).map_err(|error| named(out, &error)),
+    }
 }
 
 /// The file of one sheet: `out.svg` becomes `out-2.svg`.

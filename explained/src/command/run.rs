@@ -4,11 +4,14 @@ use super::args::{Asked, Task};
 use super::files::{self, print};
 use super::usage::HELP;
 use super::{variants, Failure, DIFFERENT, DONE, NEEDS_ENGINE};
+use crate::data::Source;
 use crate::handout::Sort;
 use crate::hints::hints;
 use crate::lines::cut;
+use crate::notation::List;
 use crate::picture::{check_length, Drawing, Roll, Sheets, Story};
 use crate::state::Wrong;
+use crate::table::table;
 use crate::{
     ahead, before, engine, handout, notation, page, paper, report, state, survivors, version,
 };
@@ -18,11 +21,14 @@ use std::fmt::Display;
 
 /// Is the call good, and its list? Says whether the engine is needed.
 pub fn check(asked: &Asked) -> Result<u8, Failure> {
-    if asked.task != Task::Help {
+    if !matches!(asked.task, Task::Help | Task::Version) {
         look_at_out(asked)?;
-        if !files::is_standard_input(&asked.list) {
-            let input = files::read(&asked.list)?;
-            files::digits(&asked.list, &input)?;
+        match files::is_standard(&asked.list) {
+            true => files::look_at_input()?,
+            false => {
+                let input = files::read(&asked.list)?;
+                files::list(&asked.list, &input)?;
+            }
         }
     }
     Ok(match asked.needs_engine() {
@@ -33,52 +39,59 @@ pub fn check(asked: &Asked) -> Result<u8, Failure> {
 
 /// Can the result be written where it is to be, and does it not lie on the list?
 fn look_at_out(asked: &Asked) -> Result<(), Failure> {
-    match &asked.out {
-        // The files of variants have names of their own.
-        Some(out) if asked.task == Task::Variants => files::look_at_folder(out),
-        Some(out) => {
-            files::keep_apart(&asked.list, out)?;
-            files::look_at_folder(out)
-        }
-        None => Ok(()),
+    let Some(out) = &asked.out else {
+        return Ok(());
+    };
+    let is_picture = matches!(asked.task, Task::Picture | Task::Explain);
+    if files::is_standard(out) {
+        return match asked.task {
+            Task::Explain => usage("--picture needs a file: the words go to standard output"),
+            Task::Variants => usage("--out needs a file or a folder: without it lists are printed"),
+            _ if asked.pages => usage("--pages needs a file: it writes several, and - is one"),
+            _ => Ok(()),
+        };
     }
+    // The files of variants have names of their own.
+    if asked.task != Task::Variants {
+        files::keep_apart(&asked.list, out)?;
+        files::look_at_ending(out, is_picture)?;
+    }
+    files::look_at_folder(out)
+}
+
+fn usage<T>(message: &str) -> Result<T, Failure> {
+    Err(Failure::Usage(message.to_string()))
 }
 
 pub fn run(asked: &Asked) -> Result<u8, Failure> {
-    if asked.task == Task::Help {
-        print(HELP.as_bytes())?;
-        return Ok(DONE);
-    }
-    if asked.needs_engine() && !engine::LINKED {
-        return Err(Failure::Usage(
-            "built without the proved engine: tools/satuphir builds it, --quick does without"
-                .to_string(),
-        ));
+    match asked.task {
+        Task::Help => return print(HELP.as_bytes()).map(|()| DONE),
+        Task::Version => {
+            return print(format!("satuphir {}\n", version::VERSION).as_bytes()).map(|()| DONE)
+        }
+        _ => {}
     }
     look_at_out(asked)?;
     let input = files::read(&asked.list)?;
-    let digits = files::digits(&asked.list, &input)?;
-    match asked.task {
-        Task::Encode => print(&digits)?,
-        Task::Decode => print(notation::decode(&digits).as_bytes())?,
-        Task::Survivors => {
-            say(&survivors::notes(&input, &digits));
-            return counts(asked, &digits);
-        }
-        Task::Variants => {
-            say(&hints(&input));
-            return variants::run(asked, &input, &digits);
-        }
-        Task::Handout(sort) => {
-            say(&hints(&input));
-            return hand_out(asked, sort, &digits);
-        }
-        _ => {
-            say(&hints(&input));
-            return with_lines(asked, &digits);
-        }
+    let list = files::list(&asked.list, &input)?;
+    if asked.needs_engine() && !engine::LINKED {
+        return usage(
+            "built without the proved engine: tools/satuphir builds it, --quick does without",
+        );
     }
-    Ok(DONE)
+    let digits = &list.digits;
+    match asked.task {
+        Task::Survivors => say(&survivors::notes(&input, digits)),
+        _ => say(&hints(&input)),
+    }
+    match asked.task {
+        Task::Encode => print(digits).map(|()| DONE),
+        Task::Decode => print(notation::decode(digits).as_bytes()).map(|()| DONE),
+        Task::Survivors => counts(asked, digits),
+        Task::Variants => variants::run(asked, &input, digits),
+        Task::Handout(sort) => hand_out(asked, sort, digits),
+        _ => with_lines(asked, &list),
+    }
 }
 
 pub fn say(notes: &[String]) {
@@ -134,18 +147,28 @@ fn hand_out(asked: &Asked, sort: Sort, digits: &[u8]) -> Result<u8, Failure> {
 }
 
 /// What needs the lines of the list.
-fn with_lines(asked: &Asked, digits: &[u8]) -> Result<u8, Failure> {
+fn with_lines(asked: &Asked, list: &List) -> Result<u8, Failure> {
+    let List { digits, places } = list;
     say_whose(asked);
     let lines = lines_of(asked, digits);
     let ask = (!asked.quick).then_some(engine::precedes as before::Ask);
+    let source = Source {
+        digits,
+        quick: asked.quick,
+        places,
+    };
     match asked.task {
+        Task::Play if asked.json => said(source.play(&lines)),
+        Task::Play if asked.table => said(table(digits, &lines, places)),
         Task::Play => print(&lines).map(|()| DONE),
-        Task::State(number) => match state::after(digits, &lines, number) {
-            Err(Wrong::NoFrame(message)) => Err(Failure::Usage(message)),
-            Err(Wrong::Difference(difference)) => Ok(status(Some(difference))),
-            Ok(text) => print(text.as_bytes()).map(|()| DONE),
-        },
-        Task::Next => said(ahead::next(digits, &lines)),
+        Task::State(number) => of_moment(match asked.json {
+            true => source.state(&lines, number),
+            false => state::after(digits, &lines, number, places),
+        }),
+        Task::Next(after) => of_moment(match asked.json {
+            true => source.next(&lines, after),
+            false => ahead::next(digits, &lines, after, places),
+        }),
         Task::Before => said(before::text(digits, &lines, ask, &asked.pairs)),
         Task::Page => {
             let page = page::page(&title(asked), &made_by(asked, digits), digits, &lines, ask);
@@ -153,7 +176,16 @@ fn with_lines(asked: &Asked, digits: &[u8]) -> Result<u8, Failure> {
             put_file(asked, &page.html)?;
             Ok(status(page.wrong))
         }
-        _ => explained(asked, digits, &lines),
+        _ => explained(asked, list, &lines),
+    }
+}
+
+/// Prints what stands at a moment; one that is not there is a bad call.
+fn of_moment(text: Result<String, Wrong>) -> Result<u8, Failure> {
+    match text {
+        Err(Wrong::NoFrame(message)) => Err(Failure::Usage(message)),
+        Err(Wrong::Difference(difference)) => Ok(status(Some(difference))),
+        Ok(text) => print(text.as_bytes()).map(|()| DONE),
     }
 }
 
@@ -166,11 +198,12 @@ fn said(text: Result<String, impl Display>) -> Result<u8, Failure> {
 }
 
 /// The words, the picture, or both.
-fn explained(asked: &Asked, digits: &[u8], lines: &[u8]) -> Result<u8, Failure> {
+fn explained(asked: &Asked, list: &List, lines: &[u8]) -> Result<u8, Failure> {
+    let List { digits, places } = list;
     if asked.out.is_some() {
         check_length(cut(digits).len()).map_err(|message| too_long(asked, message))?;
     }
-    let report = report::report(digits, lines);
+    let report = report::report(digits, lines, places);
     if asked.out.is_some() {
         put_picture(asked, &made_by(asked, digits), &report.story)?;
     }

@@ -61,7 +61,7 @@ fn first_name(asked: &Asked, out: &OsString, in_words: bool) -> OsString {
         return out.clone();
     }
     let name = match Path::new(&asked.list).file_name() {
-        Some(name) if !files::is_standard_input(&asked.list) => name.to_os_string(),
+        Some(name) if !files::is_standard(&asked.list) => name.to_os_string(),
         _ => match in_words {
             true => "variant.txt".into(),
             false => "variant.in".into(),

@@ -1,53 +1,15 @@
-//! From words to digits.
+//! From the words of a line to its frame.
 
-use super::scan::{Scan, BYTE_ORDER_MARK};
-use super::{raw, Error, WORDS};
+use super::scan::{indent, Scan};
+use super::{raw, Error};
 use crate::names;
-use reference::encode::{put_digits, put_line};
+use reference::encode::put_digits;
 use reference::frame::{Delivery, Draft, Frame};
 use reference::limits::{MAX_CHARES, MAX_MACHINES};
 use reference::wire::Kind;
 
-/// The list in digits, one frame a line.
-pub fn encode(input: &[u8]) -> Result<Vec<u8>, Error> {
-    let mut out = Vec::new();
-    // A job is written once its chares are known.
-    let mut job: Option<Draft> = None;
-    let input = input.strip_prefix(BYTE_ORDER_MARK).unwrap_or(input);
-    for (at, line) in input.split(|&b| b == b'\n').enumerate() {
-        let line = line.strip_suffix(b"\r").unwrap_or(line);
-        let text = String::from_utf8_lossy(line);
-        let mut scan = Scan::new(at + 1, &text);
-        if scan.is_done() {
-            continue;
-        }
-        let word = scan.word().unwrap_or_default();
-        if word == "chare" {
-            let Some(draft) = &mut job else {
-                return Err(scan.wrong(
-                    "a line \"chare\" stands under a line \"job\", nowhere else".to_string(),
-                ));
-            };
-            put_chare(draft, &mut scan)?;
-            continue;
-        }
-        if let Some(draft) = job.take() {
-            put_line(&mut out, &Frame::Job(draft));
-        }
-        match word.as_str() {
-            "job" => job = Some(draft(&mut scan)?),
-            "raw" => put_raw(&mut out, at + 1, line)?,
-            word => put_line(&mut out, &frame(word, &mut scan)?),
-        }
-    }
-    if let Some(draft) = job {
-        put_line(&mut out, &Frame::Job(draft));
-    }
-    Ok(out)
-}
-
-/// A frame of one line; its first word is taken.
-fn frame(word: &str, scan: &mut Scan) -> Result<Frame, Error> {
+/// A frame of one line; its first word, a known one, is taken.
+pub fn frame(word: &str, scan: &mut Scan) -> Result<Frame, Error> {
     let chare = |scan: &mut Scan| scan.byte("a chare");
     let machine = |scan: &mut Scan| scan.byte("a machine");
     let frame = match word {
@@ -71,10 +33,7 @@ fn frame(word: &str, scan: &mut Scan) -> Result<Frame, Error> {
         "withdraw" => Frame::Withdraw {
             chare: chare(scan)?,
         },
-        other => {
-            let known = WORDS.join(", ");
-            return Err(scan.wrong(format!("expected one of {known}, found \"{other}\"")));
-        }
+        other => return Err(scan.wrong(format!("\"{other}\" begins no frame"))),
     };
     scan.end()?;
     Ok(frame)
@@ -89,13 +48,16 @@ fn inject(scan: &mut Scan) -> Result<Frame, Error> {
     Ok(Frame::Inject { chare, value, hops })
 }
 
+const KINDS: &str = "ASK, GRANT, DATA, NOTE or ACK, or a kind's number";
+
 fn deliver(scan: &mut Scan) -> Result<Frame, Error> {
     let named = Kind::ALL
         .into_iter()
         .find(|&kind| scan.take(&[names::kind(kind)]));
-    let kind = match named {
-        Some(kind) => kind as u8,
-        None => scan.byte("ASK, GRANT, DATA, NOTE or ACK, or a kind's number")?,
+    let kind = match (named, scan.meant(&Kind::ALL.map(names::kind))) {
+        (Some(kind), _) => kind as u8,
+        (None, Some(_)) => return Err(scan.expected_one_of(KINDS, &Kind::ALL.map(names::kind))),
+        (None, None) => scan.byte(KINDS)?,
     };
     let sender = scan.byte("a sender")?;
     scan.must(&[">", "→"])?;
@@ -109,7 +71,8 @@ fn deliver(scan: &mut Scan) -> Result<Frame, Error> {
     }))
 }
 
-fn draft(scan: &mut Scan) -> Result<Draft, Error> {
+/// The line of a job, without its chares.
+pub fn draft(scan: &mut Scan) -> Result<Draft, Error> {
     let mut draft = Draft {
         machines: scan.byte("how many machines")?,
         ..Draft::default()
@@ -133,16 +96,20 @@ fn draft(scan: &mut Scan) -> Result<Draft, Error> {
             ))?;
         }
     }
-    scan.end()?;
+    scan.end_or(&["buddies"])?;
     Ok(draft)
 }
 
-fn put_chare(draft: &mut Draft, scan: &mut Scan) -> Result<(), Error> {
+/// A chare under the line of its job. Whatever is wrong with the line, it counts for those that follow.
+pub fn put_chare(draft: &mut Draft, scan: &mut Scan) -> Result<(), Error> {
     let next = draft.chares + 1;
     if usize::from(next) > MAX_CHARES {
         return Err(scan.wrong(format!("a job has at most {MAX_CHARES} chares")));
     }
-    if scan.byte(&format!("chare {next}"))? != next {
+    draft.chares = next;
+    let number = scan.byte(&format!("chare {next}"))?;
+    if number != next {
+        draft.chares = number.min(MAX_CHARES as u8);
         return Err(scan.wrong(format!(
             "expected chare {next}: the chares of a job stand in order"
         )));
@@ -156,27 +123,25 @@ fn put_chare(draft: &mut Draft, scan: &mut Scan) -> Result<(), Error> {
         }
     }
     scan.end()?;
-    draft.places[usize::from(draft.chares)] = place;
-    draft.chares = next;
+    draft.places[usize::from(next) - 1] = place;
     Ok(())
 }
 
-/// Everything after `raw` and one blank.
-fn put_raw(out: &mut Vec<u8>, number: usize, line: &[u8]) -> Result<(), Error> {
-    let start = line.len() - line.trim_ascii_start().len() + "raw".len();
-    let text = &line[(start + 1).min(line.len())..];
-    let bytes = raw::read(text).map_err(|at| Error {
+/// Everything after `raw` and one blank, as it stands.
+pub fn raw_line(number: usize, line: &[u8]) -> Result<Vec<u8>, Error> {
+    let start = indent(&String::from_utf8_lossy(line)) + "raw".len();
+    let error = |at: usize, message: &str| Error {
         line: number,
-        column: String::from_utf8_lossy(&line[..start + 1 + at])
-            .chars()
-            .count()
-            + 1,
-        message: "expected \\\\ or \\x and two hexadecimal digits, not those of a newline"
-            .to_string(),
-    })?;
-    out.extend(bytes);
-    out.push(b'\n');
-    Ok(())
+        column: String::from_utf8_lossy(&line[..at]).chars().count() + 1,
+        message: message.to_string(),
+    };
+    let text = match line.get(start) {
+        None => &[],
+        Some(b' ' | b'\t') => &line[start + 1..],
+        Some(_) => return Err(error(start, "expected a blank after \"raw\"")),
+    };
+    let escape = "expected \\\\ or \\x and two hexadecimal digits, not those of a newline";
+    raw::read(text).map_err(|at| error(start + 1 + at, escape))
 }
 
 /// The digits of a frame, in capitals.

@@ -1,4 +1,4 @@
-//! A list in words: one frame a line, numbers in decimal, comments after `#`.
+//! A list in words: one frame a line, numbers in decimal, comments after `#`. A line may be in digits too.
 //!
 //! ```text
 //! job 2 machines, buddies 2 1     # not named, or 0: the machine before
@@ -13,17 +13,22 @@
 //! show 1
 //! withdraw 1                      # takes the desk's last message to chare 1 back
 //! raw 12G1                        (this line as it stands, for what is no frame)
+//! 1201                            # a frame in digits
 //! ```
 
 mod decode;
 mod encode;
 mod form;
+mod list;
+mod near;
 mod raw;
 mod scan;
 
 pub use decode::{decode, one_line, words};
-pub use encode::{digits as digits_of, encode};
-pub use form::{form, Form, WORDS};
+pub use encode::digits as digits_of;
+pub use form::{form, Form, Shape, WORDS};
+pub use near::nearest;
+pub use scan::{first, BYTE_ORDER_MARK};
 
 use std::fmt;
 
@@ -45,10 +50,64 @@ impl fmt::Display for Error {
     }
 }
 
-/// A list in either form, as digits.
-pub fn digits(input: &[u8]) -> Result<Vec<u8>, Error> {
-    match form(input) {
-        Form::Digits => Ok(input.to_vec()),
-        Form::Words => encode(input),
+/// Every mistake in a list, in order.
+#[derive(Clone, Debug, PartialEq, Eq)]
+pub struct Mistakes(pub Vec<Error>);
+
+impl fmt::Display for Mistakes {
+    fn fmt(&self, f: &mut fmt::Formatter<'_>) -> fmt::Result {
+        let lines: Vec<String> = self.0.iter().map(Error::to_string).collect();
+        f.write_str(&lines.join("\n"))
     }
+}
+
+/// A list as it is played.
+#[derive(Clone, Debug, PartialEq, Eq)]
+pub struct List {
+    /// One frame a line.
+    pub digits: Vec<u8>,
+    pub places: Places,
+}
+
+impl List {
+    fn new(digits: Vec<u8>, lines: Vec<usize>) -> List {
+        let places = Places::new(lines);
+        List { digits, places }
+    }
+}
+
+/// On which line of what was given a frame stands, where that is not the frame's number.
+#[derive(Clone, Debug, Default, PartialEq, Eq)]
+pub struct Places(Vec<usize>);
+
+impl Places {
+    fn new(lines: Vec<usize>) -> Places {
+        let as_numbered = lines.iter().copied().eq(1..=lines.len());
+        Places(if as_numbered { Vec::new() } else { lines })
+    }
+
+    /// The line of a frame, both counted from 1; none if every frame stands on the line of its number.
+    pub fn line(&self, frame: usize) -> Option<usize> {
+        self.0.get(frame.checked_sub(1)?).copied()
+    }
+
+    /// " (line 8)" beside a frame's number, or nothing.
+    pub fn beside(&self, frame: usize) -> String {
+        let width = self.0.last().map_or(0, |last| last.to_string().len());
+        let shown = |line| format!(" (line {line:>width$})");
+        self.line(frame).map_or_else(String::new, shown)
+    }
+}
+
+/// A list in either form, or in both.
+pub fn read(input: &[u8]) -> Result<List, Mistakes> {
+    match form(input) {
+        Form::Digits => Ok(List::new(input.to_vec(), Vec::new())),
+        Form::Words => list::read(input),
+    }
+}
+
+/// The same as digits alone.
+pub fn digits(input: &[u8]) -> Result<Vec<u8>, Mistakes> {
+    read(input).map(|list| list.digits)
 }

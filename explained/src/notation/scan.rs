@@ -1,13 +1,40 @@
 //! One line in words, cut into pieces that know their column.
 
+use super::near::nearest;
 use super::Error;
+use crate::lines::shortened;
 
 /// Some editors put it in front of a file.
 pub const BYTE_ORDER_MARK: &[u8] = b"\xEF\xBB\xBF";
 
+/// So much of a piece is shown in an error.
+const SHOWN: usize = 40;
+
 struct Piece<'a> {
     column: usize,
     text: &'a str,
+}
+
+fn is_gap(letter: char) -> bool {
+    letter.is_whitespace() || letter == ','
+}
+
+fn is_arrow(letter: char) -> bool {
+    letter == '>' || letter == '→'
+}
+
+/// How many bytes stand before the first piece.
+pub fn indent(text: &str) -> usize {
+    text.len() - text.trim_start_matches(is_gap).len()
+}
+
+/// The first piece of a line; none if it is blank or a comment.
+pub fn first(text: &str) -> Option<&str> {
+    let text = &text[indent(text)..];
+    let end = text.find(|letter| is_gap(letter) || is_arrow(letter) || letter == '#');
+    // An arrow at the front is a piece by itself.
+    let letter = text.chars().next().filter(|&letter| letter != '#')?;
+    Some(&text[..end.unwrap_or(text.len()).max(letter.len_utf8())])
 }
 
 /// The pieces of a line, taken one after another.
@@ -27,9 +54,9 @@ impl<'a> Scan<'a> {
         for (before, (at, letter)) in text.char_indices().enumerate() {
             let column = before + 1;
             let whole = &text[at..at + letter.len_utf8()];
-            if letter.is_whitespace() || letter == ',' {
+            if is_gap(letter) {
                 open = false;
-            } else if letter == '>' || letter == '→' {
+            } else if is_arrow(letter) {
                 pieces.push(Piece {
                     column,
                     text: whole,
@@ -69,7 +96,7 @@ impl<'a> Scan<'a> {
     fn found(&self, piece: Option<&Piece>) -> (usize, String) {
         match piece {
             None => (self.end, "the line ends".to_string()),
-            Some(piece) => (piece.column, format!("found \"{}\"", piece.text)),
+            Some(piece) => (piece.column, format!("found \"{}\"", printable(piece.text))),
         }
     }
 
@@ -81,6 +108,22 @@ impl<'a> Scan<'a> {
             column,
             message: format!("expected {what}, {found}"),
         }
+    }
+
+    /// As above, where one of these words may have been meant.
+    pub fn expected_one_of(&self, what: &str, known: &[&str]) -> Error {
+        let mut error = self.expected(what);
+        if let Some(meant) = self.meant(known) {
+            error
+                .message
+                .push_str(&format!("; did you mean \"{meant}\"?"));
+        }
+        error
+    }
+
+    /// The word that the next piece may have been meant to be.
+    pub fn meant<'w>(&self, known: &[&'w str]) -> Option<&'w str> {
+        nearest(self.peek()?.text, known)
     }
 
     /// An error at the piece that was taken last.
@@ -96,9 +139,9 @@ impl<'a> Scan<'a> {
         }
     }
 
-    /// Takes the next piece, in small letters.
-    pub fn word(&mut self) -> Option<String> {
-        let word = self.peek()?.text.to_ascii_lowercase();
+    /// Takes the next piece.
+    pub fn word(&mut self) -> Option<&'a str> {
+        let word = self.peek()?.text;
         self.at += 1;
         Some(word)
     }
@@ -152,11 +195,28 @@ impl<'a> Scan<'a> {
 
     /// Nothing may follow but a comment.
     pub fn end(&self) -> Result<(), Error> {
+        self.end_or(&[])
+    }
+
+    /// Nothing may follow but a comment; one of these could have.
+    pub fn end_or(&self, known: &[&str]) -> Result<(), Error> {
         match self.is_done() {
             true => Ok(()),
-            false => Err(self.expected("the end of the line or a comment")),
+            false => Err(self.expected_one_of("the end of the line or a comment", known)),
         }
     }
+}
+
+/// A piece for one line of print, whatever it holds.
+fn printable(text: &str) -> String {
+    let mut shown = String::new();
+    for letter in shortened(text, SHOWN).chars() {
+        match letter.is_control() {
+            true => shown.extend(letter.escape_default()),
+            false => shown.push(letter),
+        }
+    }
+    shown
 }
 
 fn number(text: &str) -> Option<u32> {

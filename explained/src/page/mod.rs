@@ -1,7 +1,7 @@
 //! One page to click through: the picture beside the words, and the state of the moment. It fetches nothing from elsewhere.
 
 mod html;
-mod json;
+pub mod json;
 mod print;
 mod works;
 

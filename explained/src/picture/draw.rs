@@ -91,10 +91,11 @@ fn put_heads(svg: &mut Svg, title: &str, story: &Story, layout: &Layout) {
             height: rows - top,
         };
         svg.rect(area, 0.0, "fill=\"#fff\"");
-        let mut text = format!("{title}: who sent what to whom, frame by frame, time running down");
-        if pages > 1 {
-            text.push_str(&format!(" (page {} of {pages})", at + 1));
-        }
+        let page = match pages {
+            1 => String::new(),
+            _ => format!(" (page {} of {pages})", at + 1),
+        };
+        let text = super::title::title(title, &page, layout.width - 32.0);
         let place = Point::new(16.0, top + TITLE_AT);
         svg.text(place, Anchor::Start, "class=\"title\"", &text);
         let heads = match at {

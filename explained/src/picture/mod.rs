@@ -14,6 +14,7 @@ mod roll;
 mod routes;
 mod sheets;
 mod svg;
+mod title;
 mod tracks;
 
 pub use draw::{check_length, Drawing, MOST_FRAMES, MOST_ROWS};

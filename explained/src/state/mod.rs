@@ -6,29 +6,45 @@ mod facts;
 pub use change::{compared, Entry, Mark, Section};
 
 use crate::names::count;
+use crate::notation::Places;
 use crate::play::{play, Difference, Step};
 use crate::words::letter;
 use reference::state::State;
 
 /// What stands after frame `number`, 0 being before the first. The state is the second implementation's, compared line by line
 /// with the engine up to there.
-pub fn after(input: &[u8], engine: &[u8], number: usize) -> Result<String, Wrong> {
-    let (mut text, mut frames) = (None, 0);
+pub fn after(input: &[u8], engine: &[u8], number: usize, places: &Places) -> Result<String, Wrong> {
+    at(input, engine, number, |step| match step {
+        Some(step) => of_step(step, places),
+        None => {
+            let empty = State::new();
+            format!(
+                "Before the first frame\n{}",
+                listed(&compared(&empty, &empty))
+            )
+        }
+    })
+}
+
+/// Shows a frame to `see`, none for number 0.
+pub fn at<T>(
+    input: &[u8],
+    engine: &[u8],
+    number: usize,
+    see: impl Fn(Option<&Step>) -> T,
+) -> Result<T, Wrong> {
+    let (mut seen, mut frames) = (None, 0);
     if number == 0 {
-        let empty = State::new();
-        text = Some(format!(
-            "Before the first frame\n{}",
-            listed(&compared(&empty, &empty))
-        ));
+        seen = Some(see(None));
     }
     play(input, engine, |step| {
         frames = step.number;
         if step.number == number {
-            text = Some(of_step(step));
+            seen = Some(see(Some(step)));
         }
     })
     .map_err(Wrong::Difference)?;
-    text.ok_or_else(|| {
+    seen.ok_or_else(|| {
         Wrong::NoFrame(format!(
             "there is no frame {number}: the list has {}",
             count(frames, "frame")
@@ -43,7 +59,7 @@ pub enum Wrong {
     Difference(Difference),
 }
 
-fn of_step(step: &Step) -> String {
+fn of_step(step: &Step, places: &Places) -> String {
     let sections = compared(step.before, step.after);
     let any = sections
         .iter()
@@ -56,8 +72,9 @@ fn of_step(step: &Step) -> String {
     let rule = step.answer.rule().map(letter::sentence);
     let rule = rule.map_or_else(String::new, |rule| rule + "\n");
     format!(
-        "After frame {}:  {}\n{rule}{note}\n{}",
+        "After frame {}{}:  {}\n{rule}{note}\n{}",
         step.number,
+        places.beside(step.number),
         step.head(),
         listed(&sections)
     )

@@ -8,6 +8,7 @@ mod garbled;
 pub mod headline;
 mod job;
 pub mod letter;
+mod missing;
 mod range;
 pub mod refusal;
 mod restart;

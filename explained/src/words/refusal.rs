@@ -1,6 +1,6 @@
 //! Why a frame was refused: the question, and what was the matter.
 
-use super::{garbled, range, withdraw};
+use super::{garbled, missing, range, withdraw};
 use crate::names::{message, place, sender, short};
 use crate::play::Step;
 use crate::traffic::named;
@@ -21,8 +21,19 @@ pub fn words(step: &Step, question: Question) -> String {
     let asked = asked(step, question);
     format!(
         "Refused by question {number}, \"{asked}\": {}.",
-        reason(step, question)
+        told(step, question)
     )
+}
+
+/// The reason, and for question 6 what is waited for.
+pub fn told(step: &Step, question: Question) -> String {
+    let mut told = reason(step, question);
+    if let (Question::Present, Some(frame), Some(job)) = (question, &step.frame, &step.before.job) {
+        if let Some(hint) = missing::hint(job, &step.before.world, frame) {
+            told.push_str(&format!("; {hint}"));
+        }
+    }
+    told
 }
 
 /// The question in words.

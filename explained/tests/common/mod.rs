@@ -4,7 +4,9 @@
 #![allow(dead_code)]
 
 pub mod c;
+pub mod clone;
 pub mod documents;
+pub mod json;
 pub mod named;
 pub mod run;
 pub mod seen;
@@ -14,6 +16,7 @@ pub mod told;
 
 use explained::before::row::Row;
 use explained::before::Ask;
+use explained::notation::Places;
 use explained::page::page;
 use explained::picture::{Drawing, Roll, Sheets, Story};
 use explained::play::play;
@@ -55,7 +58,7 @@ pub fn widest_lists() -> impl Iterator<Item = (u64, Vec<u8>)> {
 }
 
 pub fn explained(input: &[u8]) -> Report {
-    let report = report(input, &engine::lines(input));
+    let report = report(input, &engine::lines(input), &Places::default());
     assert_eq!(report.difference, None);
     report
 }
