@@ -2,6 +2,7 @@
 # edits.sh: writes docs/EDITS.md anew, the table of all must-fail edits, crate by crate as crates.txt has them; with a FILE, that one. A test
 # holds the document to it.
 set -euo pipefail
+export LC_ALL=C # one order of names everywhere
 cd "$(dirname "$0")/.."
 names() { # FOLDER
   local file all=

@@ -2,9 +2,10 @@
 
 mod common;
 
-use common::documents::document;
+use common::documents::{document, root};
 use common::named::{meant, repository, stands, Pieces};
-use common::run::run;
+use common::run::{fresh, run};
+use std::fs;
 use std::process::Command;
 
 /// The repository, and what is looked for in it.
@@ -175,6 +176,58 @@ fn commands() {
             look.after(text, command, &crates);
         }
     });
+}
+
+/// docs/EDITS.md is what its script writes: every must-fail edit, in the gate or beyond it.
+#[test]
+fn edits() {
+    let file = fresh("edits").join("EDITS.md");
+    let script = root().join("tools/edits.sh");
+    let status = Command::new(script).arg(&file).status();
+    assert!(status.expect("a run").success());
+    let written = fs::read_to_string(file).expect("a table");
+    assert_eq!(document("docs/EDITS.md"), written, "run tools/edits.sh");
+    let is_edit = |path: &String| path.ends_with(".edit");
+    for path in repository().into_iter().filter(is_edit) {
+        let (_, name) = path.rsplit_once('/').expect("a folder");
+        let name = name.trim_end_matches(".edit");
+        assert!(stands(&written, name), "not in the table: {path}");
+    }
+}
+
+/// The numbers of the decisions that have a heading.
+fn decided(text: &str) -> Vec<usize> {
+    let items = text.lines().filter_map(|line| line.split_once(". **"));
+    items
+        .filter_map(|(number, _)| number.parse().ok())
+        .collect()
+}
+
+/// The numbers of the decisions that a text cites.
+fn cited(text: &str) -> Vec<usize> {
+    let text = text.split_whitespace().collect::<Vec<_>>().join(" ");
+    let starts = ["DECISIONS.md, ", "DECISIONS.md (", "(decision "];
+    let rests = starts.iter().flat_map(|start| text.split(start).skip(1));
+    let digits = rests.map(|rest| rest.split(|c: char| !c.is_ascii_digit()).next());
+    digits.filter_map(|number| number?.parse().ok()).collect()
+}
+
+/// Decisions stand in order, none is left out, each has a heading; those that are cited are there.
+#[test]
+fn decisions() {
+    let text = document("docs/DECISIONS.md");
+    let numbers = decided(&text);
+    assert_eq!(numbers, (1..=numbers.len()).collect::<Vec<_>>());
+    let starts = |line: &&str| line.starts_with(|c: char| c.is_ascii_digit());
+    assert_eq!(text.lines().filter(starts).count(), numbers.len());
+    let mut found = 0;
+    for (name, text) in documents() {
+        for number in cited(&text) {
+            assert!(numbers.contains(&number), "{name}: decision {number}");
+            found += 1;
+        }
+    }
+    assert!(found >= 8, "{found} are cited");
 }
 
 /// What is not there is noticed, whichever way it is named.
