@@ -90,14 +90,21 @@ fn the_calls_of_readme() {
     assert_eq!(called(&readme), called(&help));
 }
 
-/// The rule book's sitting in README: frame, words and line of each row.
+/// The README is for people who use it; all else has a document of its own.
 #[test]
-fn the_table_of_readme() {
+fn readme_is_short() {
+    let words = document("README.md").split_whitespace().count();
+    assert!(words < 1500, "{words} words");
+}
+
+/// The rule book's sitting in the rules: frame, words and line of each row.
+#[test]
+fn the_sitting_of_the_rules() {
     let list =
         fs::read_to_string(root().join("examples/00-the-rule-books-sitting.in")).expect("a list");
     let lines = String::from_utf8(answer_all(list.as_bytes())).expect("digits");
-    let readme = document("README.md");
-    let rows: Vec<Vec<String>> = rows(&readme)
+    let rules = document("docs/RULES.md");
+    let rows: Vec<Vec<String>> = rows(&rules)
         .into_iter()
         .filter(|row| row.len() == 4 && row[0] != "frame")
         .collect();
@@ -115,7 +122,7 @@ fn the_table_of_readme() {
 /// The row of the crash without cover has each reason that `explain` gives.
 #[test]
 #[cfg_attr(not(library), ignore = "needs the engine's library")]
-fn the_reasons_in_readmes_table() {
+fn the_reasons_in_the_sitting_of_the_rules() {
     let rule_book = root().join("examples/00-the-rule-books-sitting.in");
     let (_, text, _) = run(&["explain".as_ref(), rule_book.as_os_str()]);
     let text = text.replace("\n      ", " ");
@@ -123,8 +130,9 @@ fn the_reasons_in_readmes_table() {
     let given: Vec<&str> = given[..given.find('.').expect("an end")]
         .split("; ")
         .collect();
-    let readme = document("README.md");
-    let row = rows(&readme)
+    let rules = document("docs/RULES.md");
+    let (_, sitting) = rules.split_once("own sitting\n").expect("a sitting");
+    let row = rows(sitting)
         .into_iter()
         .find(|row| row.contains(&"`FF`".to_string()));
     let row = row.expect("a row").pop().expect("what happens");
@@ -137,7 +145,7 @@ fn the_reasons_in_readmes_table() {
     ];
     assert_eq!(given, told.map(|(reason, _)| reason));
     for (_, words) in told {
-        assert!(row.contains(words), "README does not say: {words}");
+        assert!(row.contains(words), "the rules do not say: {words}");
     }
 }
 
@@ -146,7 +154,7 @@ fn the_reasons_in_readmes_table() {
 fn what_the_bare_program_cannot_do() {
     for (name, words) in [
         (
-            "README.md",
+            "docs/ENGINEERS.md",
             "on a full disk, a closed input or a directory as input `sitting` ends with status 0 and without a word. \
              `tools/satuphir play` reads and writes by itself and notices all three.",
         ),
@@ -317,7 +325,7 @@ fn the_table_of_the_examples() {
 
 /// How many must-fail edits there are.
 #[test]
-fn the_edits_of_readme() {
+fn how_many_edits() {
     fn edits(folder: &Path) -> usize {
         let files = fs::read_dir(folder)
             .expect("a folder")
@@ -328,12 +336,12 @@ fn the_edits_of_readme() {
         };
         files.map(count).sum()
     }
-    let readme = flowing("README.md");
+    let engineers = flowing("docs/ENGINEERS.md");
     for (folder, words) in [
         ("crates", "must-fail edits and every program"),
         ("must-fail", "must-fail edits more"),
     ] {
         let want = format!("{} {words}", edits(&root().join(folder)));
-        assert!(readme.contains(&want), "README does not say: {want}");
+        assert!(engineers.contains(&want), "it does not say: {want}");
     }
 }

@@ -2,7 +2,7 @@
 
 mod common;
 
-use common::documents::{document, root};
+use common::documents::{document, plain, root, rows};
 use common::named::{meant, repository, stands, Pieces};
 use common::run::{fresh, run};
 use std::fs;
@@ -46,7 +46,8 @@ impl Look {
         let ends = [".antt", ".rt", ".rs", ".sh", ".md", ".edit", ".toml"];
         for word in Pieces::of(text).code() {
             let is_file = ends.iter().any(|end| word.ends_with(end));
-            if is_file && !word.contains([' ', '/', '*']) {
+            // An ending alone stands for many.
+            if is_file && !word.starts_with('.') && !word.contains([' ', '/', '*']) {
                 self.note(!meant(&self.repository, word).is_empty(), word);
             }
         }
@@ -81,6 +82,20 @@ impl Look {
             if !code.is_empty() {
                 let is_there = code.iter().any(|path| stands(&document(path), function));
                 self.note(is_there, word);
+            }
+        }
+    }
+
+    /// `module::name` stands in that module of the second implementation.
+    fn modules(&mut self, text: &str) {
+        for word in Pieces::of(text).code() {
+            let word = word.split('(').next().unwrap_or(word);
+            let Some((module, name)) = word.split_once("::") else {
+                continue;
+            };
+            let file = format!("reference/src/{module}.rs");
+            if self.repository.contains(&file) {
+                self.note(stands(&document(&file), name), word);
             }
         }
     }
@@ -129,21 +144,30 @@ fn all_there(documents: &[(String, String)], least: usize, look_at: impl Fn(&mut
     assert!(look.named >= least, "{} names", look.named);
 }
 
-#[test]
-fn files() {
+/// These, and what the folders' own READMEs say.
+fn with_folders() -> Vec<(String, String)> {
     let mut all = documents();
     for folder in ["explained", "examples", "reference"] {
         let name = format!("{folder}/README.md");
         all.push((name.clone(), document(&name)));
     }
-    all_there(&all, 200, Look::files);
-    all_there(&documents(), 20, Look::names_of_files);
+    all
+}
+
+#[test]
+fn files() {
+    all_there(&with_folders(), 200, Look::files);
+    all_there(&with_folders(), 20, Look::names_of_files);
 }
 
 #[test]
 fn definitions() {
-    all_there(&documents(), 80, Look::definitions);
+    all_there(&with_folders(), 80, Look::definitions);
     all_there(&documents(), 10, Look::functions);
+    // The second implementation has modules of such names too.
+    let own = "reference/README.md".to_string();
+    let own = [(own.clone(), document(&own))];
+    all_there(&own, 10, Look::modules);
 }
 
 fn help_of_lists() -> String {
@@ -155,7 +179,8 @@ fn help_of_lists() -> String {
 
 #[test]
 fn commands() {
-    let helps = [run(&["--help"]).1, help_of_lists()];
+    // The gate's options are those of its script.
+    let helps = [run(&["--help"]).1, help_of_lists(), document(".ci/run")];
     let calls = helps[0]
         .lines()
         .filter_map(|line| line.strip_prefix("tools/satuphir "));
@@ -163,7 +188,7 @@ fn commands() {
         .filter_map(|call| call.split(' ').next())
         .map(str::to_string)
         .collect();
-    all_there(&documents(), 20, |look, text| {
+    all_there(&with_folders(), 20, |look, text| {
         look.after(text, "tools/satuphir", &subcommands);
     });
     all_there(&documents(), 10, |look, text| look.options(text, &helps));
@@ -176,6 +201,50 @@ fn commands() {
             look.after(text, command, &crates);
         }
     });
+}
+
+/// The first cells of a section's table.
+fn first_cells(section: &str) -> Vec<String> {
+    let engineers = document("docs/ENGINEERS.md");
+    let (_, text) = engineers.split_once(section).expect("a section");
+    let (text, _) = text.split_once("\n## ").expect("an end");
+    let cells = rows(text).into_iter().map(|row| row[0].clone());
+    cells.skip(1).collect()
+}
+
+/// The steps of the gate stand in its script, in the order that is told.
+#[test]
+fn the_gate() {
+    let script = document(".ci/run");
+    let code = script.lines().filter(|line| !line.starts_with('#'));
+    let script = code.collect::<Vec<_>>().join("\n");
+    let mut rest = script.as_str();
+    let steps = first_cells("\n## The gate\n");
+    let mut found = 0;
+    for step in steps.iter().filter(|step| step.starts_with('`')) {
+        let codes = step.split('`').skip(1).step_by(2);
+        for code in codes.filter(|code| code.contains(' ')) {
+            let at = rest.find(code);
+            let at = at.unwrap_or_else(|| panic!("not there, or too early: {code}"));
+            rest = &rest[at + code.len()..];
+            found += 1;
+        }
+    }
+    assert_eq!(found, 7);
+    assert_eq!(rest.matches("cargo test").count(), 0);
+}
+
+/// What is beyond the gate has the parts of its script.
+#[test]
+fn beyond_the_gate() {
+    let script = document("tools/long.sh");
+    let (_, parts) = script.split_once("|| set -- ").expect("the parts");
+    let parts: Vec<&str> = parts.lines().next().expect("a line").split(' ').collect();
+    let told = first_cells("\n## Beyond the gate\n");
+    assert_eq!(
+        told.iter().map(|cell| plain(cell)).collect::<Vec<_>>(),
+        parts
+    );
 }
 
 /// docs/EDITS.md is what its script writes: every must-fail edit, in the gate or beyond it.
@@ -259,6 +328,7 @@ fn what_is_not_there() {
         assert_eq!(missing(text, Look::definitions).len(), 1, "{text}");
     }
     assert_eq!(missing("`engine::none`", Look::functions), ["engine::none"]);
+    assert_eq!(missing("`state::none`", Look::modules), ["state::none"]);
     let known = ["play".to_string()];
     let mut look = Look::new();
     look.after("`tools/satuphir\nply LIST`", "tools/satuphir", &known);

@@ -1,4 +1,5 @@
-//! Every script that README names is there, is called with what it needs, and says how it is called; what README shows runs.
+//! Every script that README and its companions for engineers and reviewers name is there, is called with what it needs, and says how it is
+//! called; what they show runs.
 
 mod common;
 
@@ -8,14 +9,19 @@ use std::collections::BTreeSet;
 use std::fs;
 use std::os::unix::fs::PermissionsExt;
 
-/// All that README has as code, a line each.
+/// All that the documents have as code, a line each.
 fn code() -> Vec<String> {
-    let readme = document("README.md");
+    let documents = ["README.md", "docs/ENGINEERS.md", "docs/PROOFS.md"];
+    documents.into_iter().flat_map(code_of).collect()
+}
+
+fn code_of(name: &str) -> Vec<String> {
+    let document = document(name);
     let mut code: Vec<String> = Vec::new();
-    for block in blocks(&readme, "sh") {
+    for block in blocks(&document, "sh") {
         code.extend(block.lines().map(str::to_string));
     }
-    let text: Vec<&str> = readme.split("```").step_by(2).collect();
+    let text: Vec<&str> = document.split("```").step_by(2).collect();
     let lines = text.iter().flat_map(|part| part.lines());
     code.extend(
         lines
@@ -29,7 +35,7 @@ fn code() -> Vec<String> {
     code
 }
 
-/// The scripts that README calls, each with the words behind it.
+/// The scripts that they call, each with the words behind it.
 fn calls() -> Vec<(String, Vec<String>)> {
     let code = code();
     let calls = code.iter().filter_map(|line| line.strip_prefix("tools/"));
@@ -70,7 +76,7 @@ fn every_script_is_there_and_has_what_it_needs() {
         "selfcheck.sh",
         "definitions-give-vectors.sh",
     ] {
-        assert!(named.contains(script), "README does not name {script}");
+        assert!(named.contains(script), "no document names {script}");
     }
     for (script, words) in &calls {
         let file = tools().join(script);
@@ -83,7 +89,7 @@ fn every_script_is_there_and_has_what_it_needs() {
         if !["satuphir", "lists"].contains(&script.as_str()) {
             assert!(
                 words.len() >= needed(script),
-                "README calls {script} with {words:?} alone"
+                "{script} is called with {words:?} alone"
             );
         }
     }
@@ -127,7 +133,7 @@ fn how_scripts_are_called() {
 
 /// The calls with which a rule is changed, and a rival tried, with stand-ins for what proves and builds.
 #[test]
-fn the_recipes_of_readme() {
+fn the_recipes() {
     let answers = "[ $1 = must-fail ] || exit 0\n\
                    echo \"rt: must-fail window/rival: refused, as it must be (2 s)\"\n\
                    mkdir -p target/must-fail/window/rival; echo 'src/lib.rt:1:1: error: x' >target/must-fail/window/rival/.log";
@@ -147,7 +153,7 @@ fn the_recipes_of_readme() {
     let code = code();
     let call = |start: &str| {
         let call = code.iter().find(|line| line.starts_with(start));
-        let call = call.unwrap_or_else(|| panic!("README has no {start}"));
+        let call = call.unwrap_or_else(|| panic!("no document has {start}"));
         let (status, out, error) = run_there(&there, &path, &["-c", call]);
         assert_eq!((status, error.as_str()), (0, ""), "{call}");
         out
@@ -157,7 +163,7 @@ fn the_recipes_of_readme() {
     assert_eq!(call("tools/selfcheck.sh"), "1 1000000\n");
     call("printf 'file: ");
     let edit = fs::read_to_string(there.join("mine.edit")).expect("an edit");
-    let out = call("tools/rival.sh");
+    let out = call("tools/rival.sh mine.edit ");
     assert_eq!(
         out,
         "window: refused, as it must be (2 s)\nsrc/lib.rt:1:1: error: x\n"
