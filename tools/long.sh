@@ -11,7 +11,7 @@ part() { # NAME
     compare) tools/compare.sh ;;
     compare-survivors) tools/compare-survivors.sh ;;
     compare-precedes) tools/compare-precedes.sh ;;
-    selfcheck) cargo run --release --offline --quiet --manifest-path reference/Cargo.toml --bin selfcheck -- 1 2000000 ;;
+    selfcheck) tools/selfcheck.sh 1 2000000 ;;
     definitions) tools/definitions-give-vectors.sh reference/tests/vectors ;;
     measure) tools/measure.sh && tools/measure-precedes.sh ;;
     *) echo "long.sh: no such part: $1" >&2; exit 2 ;;
