@@ -49,7 +49,9 @@ fn every_edit_fits() {
         let beyond = root.join("must-fail").join(name);
         for edit in [files(&crate_folder.join("must-fail")), files(&beyond)].concat() {
             let text = fs::read_to_string(&edit).expect("an edit");
-            let fault = fault(&text, |file| fs::read_to_string(crate_folder.join(file)).ok());
+            let fault = fault(&text, |file| {
+                fs::read_to_string(crate_folder.join(file)).ok()
+            });
             assert_eq!(fault, None, "{}", edit.display());
             count += 1;
         }
