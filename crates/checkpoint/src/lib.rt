@@ -1,4 +1,6 @@
 // Frame 13: a checkpoint of a machine. Its tables are pruned, its buddy gets a new copy, and the logs drop what the copy covers.
+#![tactic(auto)]
+
 ghost use Rattle.std.specs.Prelude.{◌≡◌, ◌&&◌, ◌<◌, length};
 ghost use Rattle.lists.specs.Questions.{first_no};
 ghost use Rattle.arrays.specs.ArrayMap.{as_map};

@@ -1,4 +1,6 @@
 // Frame 14: a crash of a machine. Its memory goes, with the copies and notes that it keeps of others and the packets on their way to it.
+#![tactic(auto)]
+
 ghost use Rattle.std.specs.Prelude.{◌≡◌, ◌<◌, length};
 ghost use Rattle.lists.specs.Questions.{put_all, first_no};
 ghost use Rattle.protocol.specs.Setters.{with_live, with_copies, with_wire};

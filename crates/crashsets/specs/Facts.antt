@@ -3,7 +3,8 @@
 use Rattle.lists.specs.Basics.{◌≡◌, refl, sym, ap, fun_ext, ◌∙◌, Bool, true, false, cond, not, List, [], ◌∷◌, here, there, inl, inr, ℕ, zero, suc, ◌+◌, ◌^◌, ◌≤◌, arith, length}
 use Rattle.lists.specs.Basics.{eq-eqb, ne_eqb, eqb, eqb-true, not_true, length-append, length-map, pow-suc}
 use Rattle.lists.specs.{Tests.{either, eq?, true_not_false}, Lists.{◌∈◌, allb, allb_true, anyb, anyb_true, keep, keep_append, keep_map, keep_mem, keep_all, keep_none, mem_map, map_mem}}
-use Rattle.protocol.specs.{Parts.Job, Job.{machines_of, job_in_range, job_of}, Recovery.Frames.Job.{machine_known, job_ok}}
+use Rattle.protocol.specs.{Parts.Job, Job.{machines_of, job_in_range, job_of}}
+use Rattle.protocol.proofs.{Recovery.Frames.Job.{machine_known, job_ok}}
 use Rattle.crashsets.specs.{CrashSets.{sets, has_size, stands, survives, total, survived}, Machines.{some, few, buddy_low, buddy_high}}
 use mathlib.Core.List.Memᴰ
 

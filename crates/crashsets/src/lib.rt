@@ -1,4 +1,6 @@
 // Document 02, Point 8: how many sets of machines a job's layout survives, if all machines of the set crash at once.
+#![tactic(auto)]
+
 ghost use Rattle.std.specs.Prelude.{◌≡◌, true, ◌+◌, ◌<◌, ◌≤◌, length};
 ghost use Rattle.arrays.specs.Copies.{put_at, Wrote};
 ghost use Rattle.protocol.specs.Job.{job_in_range, job_of};

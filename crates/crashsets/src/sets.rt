@@ -6,7 +6,7 @@ ghost use Rattle.window.specs.Bits.{bits};
 ghost use Rattle.crashsets.specs.CrashSets.{survives, total, survived};
 ghost use Rattle.crashsets.specs.Words.{set_of};
 
-#[derive(Drop)]
+#[derive(Clone, Copy)]
 pub struct Counts {
     pub total: u8,
     pub survived: u8,

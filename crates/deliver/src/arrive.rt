@@ -13,21 +13,21 @@ use protocol::{Content, Entry, Lookup, Packet, Rule};
 use tickets::FoundEntry;
 
 // What goes back under the packet's own name.
-#[derive(Drop)]
+#[derive(Clone, Copy)]
 pub enum Reply {
     Nothing,
     Send(Content),
 }
 
 // What a packet leaves beside the memory, by the rule used.
-#[derive(Drop)]
+#[derive(Clone, Copy)]
 pub struct Done {
     pub rule: Rule,
     pub reply: Reply,
 }
 
 // The refusal is 0 if there is none; else the memory is as before.
-#[derive(Drop)]
+#[derive(Clone, Copy)]
 pub struct Arrived {
     pub refusal: u8,
     pub done: Done,

@@ -1,4 +1,6 @@
 // Frame 11: the oldest packet of a name leaves the wire and does its work where it arrives.
+#![tactic(auto)]
+
 pub mod arrive;
 
 ghost use Rattle.std.specs.Prelude.{◌≡◌, cond, ◌<◌, ◌≤◌, length};

@@ -1,4 +1,6 @@
 // One step in place: any store and the bytes of any line.
+#![tactic(auto)]
+
 ghost use Rattle.std.specs.Prelude.{◌≡◌, length};
 ghost use Rattle.protocol.specs.Step.{step};
 ghost use Rattle.store.specs.Places.{STORE};

@@ -1,5 +1,7 @@
 // From a line of hexadecimal digits to a frame. The digits are read where they stand: nothing is copied,
 // and a digit is judged and decoded at once.
+#![tactic(auto)]
+
 ghost use Rattle.std.specs.Prelude.{◌≡◌, ◌+◌, ◌*◌, ◌<◌, ◌/◌, ◌%◌, length, get_or};
 ghost use Rattle.protocol.specs.Frames.{frame};
 ghost use Rattle.frames.specs.Decode.{decoded, is_hexadecimal};
@@ -11,7 +13,7 @@ const LEAST: [u8; 24] = [
     0, 3, 0, 0, 0, 0, 0, 0, 0, 0, 0, 0, 0, 0, 0, 0, 5, 6, 2, 2, 2, 2, 2, 2,
 ];
 
-#[derive(Drop)]
+#[derive(Clone, Copy)]
 pub enum Frame {
     Garbled,
     Job,

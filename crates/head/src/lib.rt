@@ -1,5 +1,7 @@
 // The head of the store: the job's numbers, the machines and the targets, one word each, read for a head of any contents.
 // Every function takes a head, or a store that begins with one.
+#![tactic(auto)]
+
 ghost use Rattle.std.specs.Prelude.{◌≡◌, not, [], ◌∷◌, ◌+◌, ◌≤◌, min, leb, length};
 ghost use Rattle.lists.specs.Questions.{◌asks◌, first_no};
 ghost use Rattle.arrays.specs.ArrayMap.{as_map};

@@ -1,5 +1,7 @@
 // One word for every item of a row: a ticket, a logged message, a note, a packet. The fields, lowest first, each with its number of bits:
 // SN 16, peer 4, owner 4, kind 3, TN 16, value 16, hops 3, flags 2, in all 64. Any word is an item: no field can be out of range.
+#![tactic(auto)]
+
 ghost use Rattle.std.specs.Prelude.{◌≡◌, ◌<◌};
 ghost use Rattle.item.specs.Item.{item_of, clipped};
 ghost use Rattle.words.specs.Fields.{bit};
@@ -16,7 +18,7 @@ pub const HOPS: u64 = 65536 * VALUE;
 
 pub const FLAGS: u64 = 8 * HOPS;
 
-#[derive(Drop)]
+#[derive(Clone, Copy)]
 pub struct Item {
     pub sn: u16,
     pub peer: u8,

@@ -2,7 +2,8 @@
 use Rattle.lists.specs.Basics.{true, List, ◌≡◌, ℕ, ◌≤◌, arith, le-leb, leb-true, eqb-false, eqb, leb}
 use Rattle.lists.specs.{Lists.{allb, keep, allb_true, mem_keep}, Tests.{either, and_l, and4}}
 use Rattle.protocol.specs.Job.{machines_of, chares_of, buddy_byte, chare_byte, buddy_in_range, chare_in_range, job_in_range, job_of, has_machine, has_chare, previous_machine}
-use Rattle.protocol.specs.{Frames.between, Parts.every_machine, Recovery.Frames.Job.{machine_known, chare_known}}
+use Rattle.protocol.specs.{Frames.between, Parts.every_machine}
+use Rattle.protocol.proofs.{Recovery.Frames.Job.{machine_known, chare_known}}
 use Rattle.frames.specs.Range.{Between, between_true}
 use Rattle.jobline.specs.Passes.{number_of}
 

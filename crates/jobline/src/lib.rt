@@ -1,4 +1,6 @@
 // What a job's line says: every number in range or not, and the numbers of its machines and chares.
+#![tactic(auto)]
+
 ghost use Rattle.std.specs.Prelude.{◌≡◌};
 ghost use Rattle.protocol.specs.Job.{buddy_byte, chare_byte, buddy_in_range, chare_in_range, job_in_range, job_of};
 ghost use Rattle.frames.specs.Decode.{decoded};

@@ -1,4 +1,6 @@
 // Lines in and out: where the first line of an input ends; the line that an answer prints, with its newline.
+#![tactic(auto)]
+
 ghost use Rattle.std.specs.Prelude.{◌≡◌, ◌∷◌, ◌++◌, ◌+◌, ◌≤◌, ◌%◌, length, drop};
 ghost use Rattle.protocol.specs.Lines.{newline, printed_digit, letter, line};
 ghost use Rattle.lines.specs.LineEnd.{line_end};

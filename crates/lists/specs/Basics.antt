@@ -11,4 +11,4 @@ pub use Rattle.std.proofs.lemmas.List.{length-map, length-replicate, drop-set-ad
 pub use Rattle.std.proofs.Math.ListN.{get_or-eq_default as List·getD-eq-default, get_or-map as List·getD-map, get_or-append as List·getD-append}
 pub use Rattle.std.proofs.Math.Seq.{paste, paste-zero, paste-suc, take-set-lt, take-nil, drop-length, take-length, take-append-add, length_paste_head, set_out}
 pub use Rattle.std.proofs.lemmas.List.Edits.{take-paste, length-paste, drop-paste, sets-eq}
-pub use Rattle.std.proofs.lemmas.Bool.{not_true, not-false, lt-leb, eqb-false}
+pub use Rattle.std.proofs.lemmas.Bool.{not-true, not-false, lt-leb, eqb-false}

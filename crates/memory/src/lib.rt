@@ -1,4 +1,6 @@
 // A chare's memory: 101 words, lent and changed in place.
+#![tactic(auto)]
+
 ghost use Rattle.std.specs.Prelude.{◌≡◌, ◌<◌, length};
 ghost use Rattle.protocol.specs.Packets.{seen};
 ghost use Rattle.window.specs.Bits.{window_bits};
@@ -100,7 +102,7 @@ pub fn seen(m: &[u64], sender: u8, sn: u16) -> Seen
 }
 
 // The five words that a work changes: state, height, and the mark and window of the entry's sender, as they stand.
-#[derive(Drop)]
+#[derive(Clone, Copy)]
 pub struct Numbers {
     pub state: u64,
     pub height: u64,

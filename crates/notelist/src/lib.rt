@@ -1,4 +1,6 @@
 // The notes that a buddy keeps for a machine: a row of words, one a note, lent and changed in place. Every function takes a slice of any length.
+#![tactic(auto)]
+
 ghost use Rattle.std.specs.Prelude.{◌≡◌, [], ◌-◌, length, get_or};
 ghost use Rattle.arrays.specs.Front.{push as pushed};
 ghost use Rattle.protocol.specs.Packets.{has_note};

@@ -1,7 +1,8 @@
 -- Chares start with their numbers as states, one after the other.
 use Rattle.lists.specs.Basics.{◌≡◌, refl, sym, ap, ◌∙◌, cond, List, [], ◌∷◌, ℕ, ◌+◌, ◌-◌, ◌<◌, ◌≤◌, arith, mod-eq_of_lt, length, set}
 use Rattle.lists.specs.Map.{upd}
-use Rattle.protocol.specs.{Parts.{Memory, State}, Setters.with_memory, Frames.between, Recovery.Frames.Job.true_between}
+use Rattle.protocol.specs.{Parts.{Memory, State}, Setters.with_memory, Frames.between}
+use Rattle.protocol.proofs.{Recovery.Frames.Job.true_between}
 use Rattle.frames.specs.Range.{between_low, between_high}
 use Rattle.words.specs.Part.{part, put, part_length}
 use Rattle.memory.specs.{Places.{STATE, MEMORY}, View.memory_view}

@@ -1,4 +1,6 @@
 // Frame 01 in place: a job's line becomes the store.
+#![tactic(auto)]
+
 ghost use Rattle.std.specs.Prelude.{◌≡◌, true, ◌+◌, ◌≤◌, ◌<◌, length};
 ghost use Rattle.protocol.specs.Job.{has_machine, job_in_range, begin as begun};
 ghost use Rattle.protocol.specs.Questions.{job_questions};

@@ -1,6 +1,8 @@
 // The wire: a row of words, one a packet, oldest first, lent and changed in place. Every function takes a slice of any length.
 // A packet's word: the peer is the receiver, the owner the sender, the kind as in a frame; of a GRANT the flags say which: 0 old,
 // 1 received, 2 new.
+#![tactic(auto)]
+
 ghost use Rattle.std.specs.Prelude.{◌≡◌, not, ◌-◌, ◌≤◌, eqb, length};
 ghost use Rattle.lists.specs.Lists.{keep};
 ghost use Rattle.arrays.specs.Front.{push};
@@ -22,14 +24,14 @@ use protocol::{Content, Packet};
 use words::{OWNER, PEER};
 
 // What is found under a name: its place, and the packet.
-#[derive(Drop)]
+#[derive(Clone, Copy)]
 pub enum Found {
     Nothing,
     At { place: usize, packet: Packet },
 }
 
 // Which packets leave the wire together: those that a machine's crash takes, or its restart, or all of a name.
-#[derive(Drop)]
+#[derive(Clone, Copy)]
 enum Leaving {
     Crash(u8),
     Restart(u8),

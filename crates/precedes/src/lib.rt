@@ -1,4 +1,6 @@
 // Document 02, Point 12: what came before what.
+#![tactic(auto)]
+
 ghost use Rattle.std.specs.Prelude.{◌≡◌};
 ghost use Rattle.precedes.specs.Precedes.{Right, number};
 ghost use Rattle.precedes.specs.Tables.{empty, pushed, pushed_all, held};
@@ -11,7 +13,7 @@ mod past;
 
 // One processing: its chare and TN, the message's sender, and the sender's TN at which the message was sent (0 and 0 for the desk).
 #[repr(C)]
-#[derive(Drop)]
+#[derive(Clone, Copy)]
 pub struct Processing {
     pub chare: u8,
     pub tn: u16,
@@ -20,7 +22,7 @@ pub struct Processing {
 }
 
 // Bad has the place of the first bad record, counted from 1.
-#[derive(Drop)]
+#[derive(Clone, Copy)]
 pub enum Answer {
     Bad(u16),
     Unknown,
@@ -29,7 +31,7 @@ pub enum Answer {
 }
 
 // The first 512 records of a row; a length of 513 says that the row has more.
-#[derive(Drop)]
+#[derive(Clone, Copy)]
 struct Table {
     pub records: [Processing; 512],
     pub len: u16,

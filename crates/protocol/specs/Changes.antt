@@ -1,7 +1,4 @@
 -- What document 02 claims of its changes: of a changed rule against the former one, of a frame against none.
 pub mod ZeroBuddy
-pub mod ZeroBuddyProof
 pub mod Letters
-pub mod LettersProof
 pub mod TakingBack
-pub mod TakingBackProof

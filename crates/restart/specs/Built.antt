@@ -2,7 +2,7 @@
 use Rattle.lists.specs.Basics.{◌≡◌, refl, sym, ◌∙◌, Bool, true, false, List, [], ℕ, ◌+◌, ◌<◌, arith, leb, length, set}
 use Rattle.lists.specs.Lists.{gather}
 use Rattle.protocol.specs.{declared.Entry.Entry, Parts.{State, every_sender, every_chare}, Restart.{enter, restored_table, filled_table, local_log}}
-use Rattle.protocol.specs.Recovery.Laws.Filled.{length_filled_table}
+use Rattle.protocol.proofs.Recovery.Laws.Filled.{length_filled_table}
 use Rattle.words.specs.Rows.{row_cut}
 use Rattle.tickets.specs.Table.{entries}
 use Rattle.notelist.specs.Notes.{notes}

@@ -1,4 +1,6 @@
 // Frame 15: tables and wire are built beside the store; then, if both fit, the store is changed.
+#![tactic(auto)]
+
 mod back;
 mod over;
 mod resend;

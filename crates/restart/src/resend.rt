@@ -19,7 +19,7 @@ use protocol::{Content, Logged, Message, Packet};
 use store::{COPY, LIVE};
 
 // What goes out for a message.
-#[derive(Drop)]
+#[derive(Clone, Copy)]
 pub enum Outgoing {
     Nothing,
     Send(Content),

@@ -1,4 +1,6 @@
 // The entries of the static library, for callers in C and Rust.
+#![tactic(auto)]
+
 ghost use Rattle.std.specs.Prelude.{◌≡◌, cond};
 ghost use Rattle.store.specs.Places.{STORE};
 ghost use Rattle.transcript.specs.View.{reading, Feeding};

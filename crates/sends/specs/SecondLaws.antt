@@ -1,7 +1,8 @@
 -- The plan of a second send, after a first one.
 use Rattle.lists.specs.Basics.{◌≡◌, refl, ◌∙◌, Bool, true, inl, inr, [], ◌∷◌, ◌++◌, ℕ, ◌+◌, arith, eq-eqb, ne_eqb, length, length-append}
 use Rattle.lists.specs.{Tests.eq?, Map.{upd, upd_same, upd_other}}
-use Rattle.protocol.specs.{declared.Message.Message, Parts.{State, Memory}, Tickets.new_tn, Sending.{local_entry, is_local, send}, Packets.seen, Recovery.Laws.Lookups.length_filled}
+use Rattle.protocol.specs.{declared.Message.Message, Parts.{State, Memory}, Tickets.new_tn, Sending.{local_entry, is_local, send}, Packets.seen}
+use Rattle.protocol.proofs.{Recovery.Laws.Lookups.length_filled}
 use Rattle.sends.specs.{declared.ticket.Ticket.Ticket, declared.ticket.Ticket.TheVariants.{Remote, Found, New, TooHigh}}
 use Rattle.sends.specs.{Ticket.{fits, is_new, tn_of, table_by, log_by, snoc, message_after}, Entries.{entry_filled, next_filled, entry_more, next_after}}
 use Rattle.sends.specs.{Sent.{ticketed_by, sent_by, sent, keeps, table_after, sn_after}, PlanLaws.judges}

@@ -2,7 +2,8 @@
 use Rattle.lists.specs.Basics.{◌≡◌, refl, sym, ap, ◌∙◌, List, Option, some, none, ℕ, ◌<◌, arith}
 use Rattle.lists.specs.Questions.{put_all, first_no, first_no_yes}
 use Rattle.protocol.specs.{declared.Answer.Answer, declared.Answer.TheVariants.Refused, declared.Entry.Entry, Parts.up, Working.next_entry}
-use Rattle.protocol.specs.{Questions.{is_chare, work_questions, entry_questions}, Step.{Outcome, judged}, Recovery.Laws.Lookups.next_entry_some}
+use Rattle.protocol.specs.{Questions.{is_chare, work_questions, entry_questions}, Step.{Outcome, judged}}
+use Rattle.protocol.proofs.{Recovery.Laws.Lookups.next_entry_some}
 use Rattle.words.specs.Part.{part}
 use Rattle.head.specs.Head.{job_of, lost_of, status_of, runs, chare_asked}
 use Rattle.tickets.specs.Fits.{InRange, found_fits}

@@ -6,7 +6,7 @@ use crate::verdict::both;
 use memory::Numbers;
 use protocol::Entry;
 
-#[derive(Drop)]
+#[derive(Clone, Copy)]
 pub struct Worked {
     pub answer: u8,
     pub numbers: Numbers,

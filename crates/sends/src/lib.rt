@@ -1,5 +1,7 @@
 // Frames 10 and 12 in place. 12: the message is worked where the store stands, then the sends are judged by reading only, and made;
 // or the five words that the work changed are written back. 10: one send, from the desk.
+#![tactic(auto)]
+
 pub mod entry;
 pub mod message;
 pub mod plan;

@@ -14,7 +14,7 @@ use store::{LIVE, last_sn};
 use tickets::FoundEntry;
 
 // What a send needs to know before it is made: its ticket, whether the window admits it and whether the table has room for it.
-#[derive(Drop)]
+#[derive(Clone, Copy)]
 pub struct Plan {
     pub ticket: Ticket,
     pub admits: bool,

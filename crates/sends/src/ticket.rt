@@ -9,7 +9,7 @@ use memory::{LOG, TABLE};
 use protocol::{Entry, Message};
 
 // How a message to be sent gets its ticket: later, from another machine; by an entry that is there; anew. Or an SN or TN passes 60,000.
-#[derive(Drop)]
+#[derive(Clone, Copy)]
 pub enum Ticket {
     Remote,
     Found(u16),

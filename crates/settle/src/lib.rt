@@ -1,4 +1,6 @@
 // The end of catching up, and frame 16, in place.
+#![tactic(auto)]
+
 ghost use Rattle.std.specs.Prelude.{◌≡◌, ◌≤◌, ◌<◌, length};
 ghost use Rattle.lists.specs.Questions.{put_all};
 ghost use Rattle.protocol.specs.Setters.{with_status};

@@ -1,4 +1,6 @@
 // Frames from standard input, answers to standard output, in constant memory.
+#![tactic(auto)]
+
 ghost use Rattle.store.specs.View.{view};
 ghost use Rattle.transcript.specs.View.{reading, Ending};
 ghost use Rattle.sitting.specs.Turns.{Answered, Turned, Played};
@@ -8,7 +10,7 @@ use store::STORE;
 use transcript::{Ended, LINE};
 
 // How many bytes of the line under way there are, and whether the input goes on.
-#[derive(Drop)]
+#[derive(Clone, Copy)]
 struct Session {
     len: usize,
     more: bool,

@@ -1,4 +1,6 @@
 // Plays the lists that its arguments name, each whole, and writes each name and then the answers.
+#![tactic(auto)]
+
 use libc::STDOUT_FILENO;
 
 // A list has to fit the buffer; of a longer one the beginning is played.

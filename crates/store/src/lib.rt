@@ -1,4 +1,6 @@
 // The whole state of a sitting in one lent store of words.
+#![tactic(auto)]
+
 ghost use Rattle.std.specs.Prelude.{◌≡◌, ◌<◌, length};
 ghost use Rattle.store.specs.Places.{STORE};
 ghost use Rattle.store.specs.View.{view};

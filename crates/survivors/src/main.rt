@@ -1,4 +1,6 @@
 // The counts for the job in the first line of standard input, to standard output.
+#![tactic(auto)]
+
 ghost use Rattle.std.specs.Prelude.{◌≤◌, length};
 
 use crashsets::ROOM;

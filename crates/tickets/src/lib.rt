@@ -1,4 +1,6 @@
 // A receiver's ticket table: a row of words, one an entry, lent and changed in place. Every function takes a slice of any length.
+#![tactic(auto)]
+
 ghost use Rattle.std.specs.Prelude.{◌≡◌, map, ◌-◌, ◌%◌, length, get_or};
 ghost use Rattle.lists.specs.Lists.{anyb, keep, find as first, change1};
 ghost use Rattle.arrays.specs.Front.{push as pushed};
@@ -12,13 +14,13 @@ ghost use Rattle.tickets.specs.Table.{as_entry, entry_of, fitted, packed, entrie
 use item::Item;
 use protocol::Entry;
 
-#[derive(Drop)]
+#[derive(Clone, Copy)]
 pub enum FoundEntry {
     Nothing,
     At(Entry),
 }
 
-#[derive(Drop)]
+#[derive(Clone, Copy)]
 pub enum FoundHole {
     Nothing,
     At(u16),

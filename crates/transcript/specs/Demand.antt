@@ -2,7 +2,8 @@
 use Rattle.lists.specs.Basics.{◌≡◌, refl, ap, ◌∙◌, true, cond, List, [], ◌∷◌, ◌++◌, ℕ, eqb}
 use Rattle.lists.specs.Tests.{either}
 use Rattle.protocol.specs.{Parts.{State, start}, Frames.Line, Lines.{newline, lines}, Step.{Outcome, step, play_all}}
-use Rattle.protocol.specs.{History.{state_after, history_after}, Demand3.{Quiet, Agrees, Begins}, Recovery.Theorem.demand3}
+use Rattle.protocol.specs.{History.{state_after, history_after}, Demand3.{Quiet, Agrees, Begins}}
+use Rattle.protocol.proofs.{Recovery.Theorem.demand3}
 use Rattle.transcript.specs.{Reading.{within, beginning, read_all, is_empty, finishes, end_state}}
 use Rattle.transcript.specs.{Pieces.{continued, continued_nothing, continued_hit, continued_miss, kept_step, kept_empty, ends_state, goes_on}}
 

@@ -1,5 +1,7 @@
 // From the bytes of an input to the bytes of the answers, in pieces of any size and in constant memory. A reader is a store, the first bytes
 // of the line under way and their count; a store of zeros and no bytes is a reader that has read nothing.
+#![tactic(auto)]
+
 ghost use Rattle.std.specs.Prelude.{◌≡◌, ◌++◌, ◌+◌, ◌≤◌, min, length, take};
 ghost use Rattle.arrays.specs.Copies.{put_at};
 ghost use Rattle.store.specs.Places.{STORE};
@@ -16,7 +18,7 @@ pub const LINE: usize = 2047;
 const ANSWER: usize = 16;
 
 // A reader that was fed: what it has of the line under way, how many bytes it took, and how many it wrote.
-#[derive(Drop)]
+#[derive(Clone, Copy)]
 pub struct Fed {
     pub len: usize,
     pub taken: usize,
@@ -24,7 +26,7 @@ pub struct Fed {
 }
 
 // Whether there was room for all, and how many bytes were written.
-#[derive(Drop)]
+#[derive(Clone, Copy)]
 pub struct Ended {
     pub ok: bool,
     pub written: usize,

@@ -5,7 +5,7 @@ ghost use Rattle.protocol.specs.Window.{ones, width};
 ghost use Rattle.window.specs.Bits.{window_bits};
 
 // The lowest bit of `low` is for the SN just above the mark, that of `high` for the SN 64 above that one.
-#[derive(Drop)]
+#[derive(Clone, Copy)]
 pub struct Window {
     pub low: u64,
     pub high: u64,

@@ -1,4 +1,6 @@
 // Frame 17: the desk takes its last message to a chare back, as long as no ticket is given for it.
+#![tactic(auto)]
+
 ghost use Rattle.std.specs.Prelude.{◌≡◌, ◌-◌, ◌<◌, length};
 ghost use Rattle.lists.specs.Lists.{find};
 ghost use Rattle.lists.specs.Questions.{first_no};

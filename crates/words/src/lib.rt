@@ -1,5 +1,7 @@
 // A counted row of words: the count, then the items, at most as many as there is room behind the count. Every function takes a slice of
 // any length. Tables, logs, note lists and the wire are rows; what a word means is theirs.
+#![tactic(auto)]
+
 ghost use Rattle.std.specs.Prelude.{◌≡◌, ◌+◌, ◌-◌, ◌≤◌, length, get_or, set, replicate};
 ghost use Rattle.arrays.specs.Front.{push as pushed};
 ghost use Rattle.arrays.specs.Place.{place};

@@ -1,6 +1,7 @@
 -- `frames::digit` meets its contract: a range of characters after the other, and what stands in none of them.
 use Rattle.lists.specs.Basics.{⊎_elim, ◌∙◌, arith, needs, ltb-true, ltb-false}
-use Rattle.protocol.specs.{Frames.digit, Recovery.Frames.Job.true_between}
+use Rattle.protocol.specs.{Frames.digit}
+use Rattle.protocol.proofs.{Recovery.Frames.Job.true_between}
 use Rattle.frames.specs.{Codes.{or_no_digit, digit_code}, Range.{between_low, between_high}}
 use Rattle.frames.proofs.digit.Statement.{statement}
 use Rattle.frames.proofs.digit.Tie as tie

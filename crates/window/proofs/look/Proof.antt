@@ -1,6 +1,6 @@
 -- `look`: at or below the mark, beyond the window, or by the bit.
 use Rattle.lists.specs.Basics.{sym, ◌∙◌, ◌-◌, arith, needs}
-use Rattle.protocol.specs.Recovery.Laws.Look.{look_low, look_bit, look_far}
+use Rattle.protocol.proofs.Recovery.Laws.Look.{look_low, look_bit, look_far}
 use Rattle.window.specs.Bits.{window_bits}
 use Rattle.window.proofs.look.Statement.{statement}
 use Rattle.window.proofs.look.Tie as tie
