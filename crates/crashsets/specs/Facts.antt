@@ -1,7 +1,7 @@
 -- What readers of the counts may expect of them: all sets are counted, as many as the binomial says; one crash is survived, and the crash
 -- of all machines is not.
 use Rattle.lists.specs.Basics.{◌≡◌, refl, sym, ap, fun_ext, ◌∙◌, Bool, true, false, cond, not, List, [], ◌∷◌, here, there, inl, inr, ℕ, zero, suc, ◌+◌, ◌^◌, ◌≤◌, arith, length}
-use Rattle.lists.specs.Basics.{eq-eqb, ne_eqb, eqb, eqb-true, not_true, length-append, length-map, pow-suc}
+use Rattle.lists.specs.Basics.{eq-eqb, ne_eqb, eqb, eqb-true, not-true, length-append, length-map, pow-suc}
 use Rattle.lists.specs.{Tests.{either, eq?, true_not_false}, Lists.{◌∈◌, allb, allb_true, anyb, anyb_true, keep, keep_append, keep_map, keep_mem, keep_all, keep_none, mem_map, map_mem}}
 use Rattle.protocol.specs.{Parts.Job, Job.{machines_of, job_in_range, job_of}}
 use Rattle.protocol.proofs.{Recovery.Frames.Job.{machine_known, job_ok}}
@@ -136,7 +136,7 @@ module _ (b : List ℕ) (good : job_in_range b ≡ true) where
       (λ f.
       let none = allb_true _ s f 1 (stands_mem s 1 (stand 1 (omega arith) (omega (arith, is_all)))) in
       let its = stand (j.buddy 1) (buddy_low b good 1 (omega arith) one) (omega (arith, is_all, buddy_high b good 1 (omega arith) one)) in
-      true_not_false its (not_true _ none))
+      true_not_false its (not-true _ none))
       (λ f. f)
 
   pub all_crash : survived j j.machines ≡ 0

@@ -1,5 +1,5 @@
 -- `crash::crash` meets its contract: refused, lost without cover, or down.
-use Rattle.lists.specs.Basics.{refl, arith, not_true, not-false, needs}
+use Rattle.lists.specs.Basics.{refl, arith, not-true, not-false, needs}
 use Rattle.protocol.specs.Questions.{crash_questions, is_machine}
 use Rattle.store.specs.{Framing.{refused, machine_in}, View.view}
 use Rattle.crash.specs.Whole.{covered, uncovered}
@@ -18,7 +18,7 @@ returns-2 c =
     let x = h.before.before in
     let j = x.before in
     let st = j.before.before.before in
-    uncovered st.args.s.now st.args.p _ j.judge.ensures (search needs) _ h.has_cover.ensures (not_true _ c.if2.true) st.requires
+    uncovered st.args.s.now st.args.p _ j.judge.ensures (search needs) _ h.has_cover.ensures (not-true _ c.if2.true) st.requires
 
 go-down-requires : tie.Need-go-down-requires
 unfolding crash_questions is_machine view

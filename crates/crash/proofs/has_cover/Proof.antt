@@ -1,5 +1,5 @@
 -- `crash::has_cover` meets its contract: the machines before q are normal, so the answer is that for the rest.
-use Rattle.lists.specs.Basics.{◌≡◌, sym, ◌∙◌, ◌+◌, ◌-◌, ◌≤◌, arith, not_true, not-false, needs}
+use Rattle.lists.specs.Basics.{◌≡◌, sym, ◌∙◌, ◌+◌, ◌-◌, ◌≤◌, arith, not-true, not-false, needs}
 use Rattle.arrays.specs.Loops.{each, each_hit, each_miss, each_end}
 use Rattle.lists.specs.Lists.{allb}
 use Rattle.protocol.specs.{Crash.{is_normal, has_cover}, Parts.job_machines}
@@ -25,7 +25,7 @@ returns : tie.Need-returns invariant-loop decreases-loop
 unfolding has_cover view
 returns c =
     let l = c.before.before.before.loop in
-    rw (← each_miss _ _ l.q _ l.invariant.2 (omega arith) (sym c.before.is_normal.ensures ∙ not_true _ c.if1.true))
+    rw (← each_miss _ _ l.q _ l.invariant.2 (omega arith) (sym c.before.is_normal.ensures ∙ not-true _ c.if1.true))
 
 loop-again : tie.Need-loop-preserved invariant-loop decreases-loop
 loop-again c =

@@ -1,5 +1,5 @@
 -- `in_range` puts its tests one after the other.
-use Rattle.lists.specs.Basics.{sym, ◌∙◌, le-leb, lt-leb, not_true, not-false, needs}
+use Rattle.lists.specs.Basics.{sym, ◌∙◌, le-leb, lt-leb, not-true, not-false, needs}
 use Rattle.protocol.specs.Frames.{between}
 use Rattle.deliver.specs.Frame.{in_range}
 use Rattle.deliver.proofs.in_range.Statement.{statement}
@@ -17,14 +17,14 @@ returns-3 : tie.Need-returns-3
 unfolding in_range between
 returns-3 c =
     let d = c.before.before in
-    rw (le-leb 1 _ d.before.if1.false, le-leb _ 5 d.if2.false, sym c.before.is_sender.ensures ∙ not_true _ c.if3.true)
+    rw (le-leb 1 _ d.before.if1.false, le-leb _ 5 d.if2.false, sym c.before.is_sender.ensures ∙ not-true _ c.if3.true)
 
 returns-4 : tie.Need-returns-4
 unfolding in_range between
 returns-4 c =
     let e = c.before.before in
     let d = e.before.before in
-    rw (le-leb 1 _ d.before.if1.false, le-leb _ 5 d.if2.false, sym e.before.is_sender.ensures ∙ not-false _ e.if3.false, sym c.before.is_chare.ensures ∙ not_true _ c.if4.true)
+    rw (le-leb 1 _ d.before.if1.false, le-leb _ 5 d.if2.false, sym e.before.is_sender.ensures ∙ not-false _ e.if3.false, sym c.before.is_chare.ensures ∙ not-true _ c.if4.true)
 
 returns-5 : tie.Need-returns-5
 unfolding in_range between

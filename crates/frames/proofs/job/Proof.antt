@@ -1,12 +1,12 @@
 -- `frames::job` meets its contract: the digits first, then the length that two bytes tell.
-use Rattle.lists.specs.Basics.{sym, ◌∙◌, needs, not_true, not-false, eq-eqb, ne_eqb}
+use Rattle.lists.specs.Basics.{sym, ◌∙◌, needs, not-true, not-false, eq-eqb, ne_eqb}
 use Rattle.frames.specs.Read.{job_as}
 use Rattle.frames.proofs.job.Statement.{statement}
 use Rattle.frames.proofs.job.Tie as tie
 
 returns : tie.Need-returns
 unfolding job_as
-returns c = rw (sym c.before.is_hexadecimal.ensures ∙ not_true _ c.if1.true)
+returns c = rw (sym c.before.is_hexadecimal.ensures ∙ not-true _ c.if1.true)
 
 returns-2 : tie.Need-returns-2
 unfolding job_as

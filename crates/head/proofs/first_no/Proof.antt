@@ -1,18 +1,18 @@
 -- `head::first_no` meets its contract: question by question.
-use Rattle.lists.specs.Basics.{not_true, not-false}
+use Rattle.lists.specs.Basics.{not-true, not-false}
 use Rattle.lists.specs.Questions.{first_no}
 use Rattle.head.proofs.first_no.Statement.{statement}
 use Rattle.head.proofs.first_no.Tie as tie
 
 returns : tie.Need-returns
 unfolding first_no
-returns c = rw (not_true c.before.args.set c.if1.true)
+returns c = rw (not-true c.before.args.set c.if1.true)
 
 returns-2 : tie.Need-returns-2
 unfolding first_no
 returns-2 c =
     let a = c.before.before.args in
-    rw (not-false a.set c.before.if1.false, not_true a.in_range c.if2.true)
+    rw (not-false a.set c.before.if1.false, not-true a.in_range c.if2.true)
 
 returns-3 : tie.Need-returns-3
 unfolding first_no

@@ -1,5 +1,5 @@
 -- `jobline::buddies_in_range` meets its contract: those before p pass, so the answer is that for the rest.
-use Rattle.lists.specs.Basics.{◌≡◌, sym, ◌∙◌, ◌≤◌, ◌-◌, arith, needs, not_true, not-false}
+use Rattle.lists.specs.Basics.{◌≡◌, sym, ◌∙◌, ◌≤◌, ◌-◌, arith, needs, not-true, not-false}
 use Rattle.lists.specs.Lists.{allb}
 use Rattle.protocol.specs.Parts.{every_machine}
 use Rattle.frames.specs.Decode.{decoded}
@@ -22,7 +22,7 @@ loop-holds c = (search needs, search needs, allb_keep _ _ every_machine)
 returns : tie.Need-returns invariant-loop decreases-loop
 returns c =
     let l = c.before.before.before.loop in
-    each_miss _ 7 l.p _ l.invariant.2 (omega arith) (sym c.before.buddy_passes.ensures ∙ not_true _ c.if1.true)
+    each_miss _ 7 l.p _ l.invariant.2 (omega arith) (sym c.before.buddy_passes.ensures ∙ not-true _ c.if1.true)
 
 loop-again : tie.Need-loop-preserved invariant-loop decreases-loop
 loop-again c =

@@ -1,5 +1,5 @@
 -- `jobline::job_in_range` meets its contract: test by test.
-use Rattle.lists.specs.Basics.{sym, ◌∙◌, needs, not_true, not-false, le-leb, lt-leb}
+use Rattle.lists.specs.Basics.{sym, ◌∙◌, needs, not-true, not-false, le-leb, lt-leb}
 use Rattle.protocol.specs.{Frames.between, Job.{machines_of, chares_of, job_in_range}}
 use Rattle.jobline.specs.Passes.{buddies_in_range, chares_in_range}
 use Rattle.jobline.proofs.job_in_range.Statement.{statement}
@@ -33,7 +33,7 @@ returns-5 c =
     let d = c.before.before in
     let n = d.before in
     let e = n.before.before in
-    rw (sym c.before.buddies_in_range.ensures ∙ not_true _ c.if5.true, ← e.before.before.byte.ensures, le-leb _ _ e.before.if1.false, le-leb _ _ e.if2.false)
+    rw (sym c.before.buddies_in_range.ensures ∙ not-true _ c.if5.true, ← e.before.before.byte.ensures, le-leb _ _ e.before.if1.false, le-leb _ _ e.if2.false)
     (rw (← n.before.byte2.ensures, le-leb _ _ n.if3.false, le-leb _ _ d.if4.false))
 
 returns-6 : tie.Need-returns-6

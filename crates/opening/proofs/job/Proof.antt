@@ -1,5 +1,5 @@
 -- `opening::job` meets its contract: refused at the first "no", or begun.
-use Rattle.lists.specs.Basics.{sym, ◌∙◌, needs, not_true, not-false}
+use Rattle.lists.specs.Basics.{sym, ◌∙◌, needs, not-true, not-false}
 use Rattle.lists.specs.Questions.{put_all}
 use Rattle.protocol.specs.{Questions.job_questions, Step.judged}
 use Rattle.store.specs.{View.{view, tried, outcome}, Framing.{refuses, accepts}}
@@ -14,7 +14,7 @@ returns-2 : tie.Need-returns-2
 unfolding tried judged put_all job_questions view
 returns-2 c =
     let e = c.before.before in
-    refuses _ 3 (rw (sym e.before.is_set.ensures ∙ e.if1.false, sym c.before.job_in_range.ensures ∙ not_true _ c.if2.true))
+    refuses _ 3 (rw (sym e.before.is_set.ensures ∙ e.if1.false, sym c.before.job_in_range.ensures ∙ not-true _ c.if2.true))
 
 returns-3 : tie.Need-returns-3
 unfolding tried judged put_all job_questions view

@@ -1,5 +1,5 @@
 -- `packets::stays` meets its contract: what each branch finds.
-use Rattle.lists.specs.Basics.{sym, ◌∙◌, not_true, not-false, eq-eqb, ne_eqb, needs}
+use Rattle.lists.specs.Basics.{sym, ◌∙◌, not-true, not-false, eq-eqb, ne_eqb, needs}
 use Rattle.lists.specs.Tests.{either}
 use Rattle.packets.specs.Stays.{stays_is}
 use Rattle.packets.proofs.stays.Statement.{statement}
@@ -18,7 +18,7 @@ returns-2 c =
     let d = e.before in
     let u = d.before in
     sym (stays_is _ _ _ _ _ u.unpack.ensures _ u.before.kind.ensures _ d.destination.ensures
-    ∙ rw (not_true u.before.before.before.args.crash c.if2.true, ne_eqb _ _ e.if1.false))
+    ∙ rw (not-true u.before.before.before.args.crash c.if2.true, ne_eqb _ _ e.if1.false))
 
 returns-3 : tie.Need-returns-3
 returns-3 c =
@@ -27,7 +27,7 @@ returns-3 c =
     let d = e.before in
     let u = d.before in
     sym (stays_is _ _ _ _ _ u.unpack.ensures _ u.before.kind.ensures _ d.destination.ensures
-    ∙ rw (not-false u.before.before.before.args.crash f.if2.false, ne_eqb _ _ e.if1.false, sym c.before.on.ensures ∙ not_true _ c.if3.true))
+    ∙ rw (not-false u.before.before.before.args.crash f.if2.false, ne_eqb _ _ e.if1.false, sym c.before.on.ensures ∙ not-true _ c.if3.true))
 
 returns-4 : tie.Need-returns-4
 returns-4 c =

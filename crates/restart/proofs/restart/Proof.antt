@@ -1,5 +1,5 @@
 -- `restart` refuses before the store is changed, or changes it.
-use Rattle.lists.specs.Basics.{not_true, not-false, arith, needs}
+use Rattle.lists.specs.Basics.{not-true, not-false, arith, needs}
 use Rattle.restart.specs.Whole.{refuse_first, machine, refuse_tables, refuse_wire, accept}
 use Rattle.restart.proofs.restart.Statement.{statement}
 use Rattle.restart.proofs.restart.Tie as tie
@@ -25,7 +25,7 @@ returns-2 c =
     let a = st.args in
     let j = c.before.before.before.before.before.before.judge in
     let t = c.before.before.tables in
-    refuse_tables a.s.now st.requires a.p j.result j.ensures c.before.before.before.before.before.if1.false _ t.result t.ensures (not_true _ c.if2.true)
+    refuse_tables a.s.now st.requires a.p j.result j.ensures c.before.before.before.before.before.if1.false _ t.result t.ensures (not-true _ c.if2.true)
 
 resend-all-requires : tie.Need-resend-all-requires
 resend-all-requires c κs =
@@ -43,7 +43,7 @@ returns-3 c =
     let t = c.before.before.before.before.before.before.before.before.before.before.before.before.before.before.before.before.tables in
     let r = c.before.before.resend-all in
     refuse_wire a.s.now st.requires a.p j.result j.ensures c.before.before.before.before.before.before.before.before.before.before.before.before.before.before.before.before.before.before.before.if1.false _ t.result t.ensures (not-false _ c.before.before.before.before.before.before.before.before.before.before.before.before.before.before.if2.false)
-    _ _ _ r.result c.before.before.before.before.before.before.before.before.before.before.copy-over.ensures (search needs) c.before.before.before.before.before.before.after-restart.ensures.0.items r.ensures.0 (not_true _ c.if3.true)
+    _ _ _ r.result c.before.before.before.before.before.before.before.before.before.before.copy-over.ensures (search needs) c.before.before.before.before.before.before.after-restart.ensures.0.items r.ensures.0 (not-true _ c.if3.true)
 
 change-requires : tie.Need-change-requires
 change-requires c κs =

@@ -1,5 +1,5 @@
 -- `settle::is_done` meets its contract: those before c pass, so the answer is that for the rest.
-use Rattle.lists.specs.Basics.{◌≡◌, sym, ◌∙◌, ◌-◌, ◌≤◌, arith, needs, not_true, not-false}
+use Rattle.lists.specs.Basics.{◌≡◌, sym, ◌∙◌, ◌-◌, ◌≤◌, arith, needs, not-true, not-false}
 use Rattle.lists.specs.Lists.{allb}
 use Rattle.protocol.specs.{Parts.every_chare, Restart.is_done}
 use Rattle.lists.specs.Counting.{counting}
@@ -17,7 +17,7 @@ decreases-loop s p c₀ c = 13 - c
 
 returns : tie.Need-returns invariant-loop decreases-loop
 unfolding is_done
-returns c = rw (sym c.before.is_catching_up.ensures ∙ not_true _ c.if1.true)
+returns c = rw (sym c.before.is_catching_up.ensures ∙ not-true _ c.if1.true)
 
 loop-holds : tie.Need-loop-init invariant-loop decreases-loop
 unfolding is_done passes allb counting every_chare
@@ -26,7 +26,7 @@ loop-holds c = (search needs, search needs, rw (sym c.before.is_catching_up.ensu
 returns-2 : tie.Need-returns-2 invariant-loop decreases-loop
 returns-2 c =
     let l = c.before.before.before.loop in
-    each_miss _ 13 l.c _ l.invariant.2 (omega arith) (sym c.before.passes.ensures ∙ not_true _ c.if2.true)
+    each_miss _ 13 l.c _ l.invariant.2 (omega arith) (sym c.before.passes.ensures ∙ not-true _ c.if2.true)
 
 loop-again : tie.Need-loop-preserved invariant-loop decreases-loop
 loop-again c =

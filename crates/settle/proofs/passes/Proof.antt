@@ -1,5 +1,5 @@
 -- `settle::passes` meets its contract: a chare elsewhere passes.
-use Rattle.lists.specs.Basics.{sym, ◌∙◌, needs, not_true, not-false}
+use Rattle.lists.specs.Basics.{sym, ◌∙◌, needs, not-true, not-false}
 use Rattle.store.specs.View.{view}
 use Rattle.settle.specs.Done.{passes}
 use Rattle.settle.proofs.passes.Statement.{statement}
@@ -7,7 +7,7 @@ use Rattle.settle.proofs.passes.Tie as tie
 
 returns : tie.Need-returns
 unfolding passes view
-returns c = rw (sym c.before.on.ensures ∙ not_true _ c.if1.true)
+returns c = rw (sym c.before.on.ensures ∙ not-true _ c.if1.true)
 
 returns-2 : tie.Need-returns-2
 unfolding passes view

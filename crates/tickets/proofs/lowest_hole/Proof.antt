@@ -1,4 +1,4 @@
-use Rattle.lists.specs.Basics.{◌≡◌, sym, ◌∙◌, ◌-◌, ◌≤◌, arith, needs, not_true, not-false}
+use Rattle.lists.specs.Basics.{◌≡◌, sym, ◌∙◌, ◌-◌, ◌≤◌, arith, needs, not-true, not-false}
 use Rattle.protocol.specs.Tickets.{lowest_hole, first_free}
 use Rattle.tickets.specs.{Table.{entries, found_hole}, Holes.{hole_start, hole_next, no_hole}}
 use Rattle.tickets.proofs.lowest_hole.Statement.{statement}
@@ -21,7 +21,7 @@ returns-2 : tie.Need-returns-2 invariant-loop decreases-loop
 unfolding found_hole
 returns-2 c =
     let l = c.before.before.before.loop in
-    sym (l.invariant.1 ∙ hole_next _ _ _ (omega arith) ∙ rw (sym c.before.has_tn.ensures ∙ not_true _ c.if2.true))
+    sym (l.invariant.1 ∙ hole_next _ _ _ (omega arith) ∙ rw (sym c.before.has_tn.ensures ∙ not-true _ c.if2.true))
 
 loop-again : tie.Need-loop-preserved invariant-loop decreases-loop
 loop-again c =

@@ -1,5 +1,5 @@
 -- `can_be_taken_back`: the log, the wire, the table.
-use Rattle.lists.specs.Basics.{sym, ◌∙◌, not_true, not-false, needs}
+use Rattle.lists.specs.Basics.{sym, ◌∙◌, not-true, not-false, needs}
 use Rattle.store.specs.ViewLaws.{span}
 use Rattle.withdraw.specs.Judged.{question_12}
 use Rattle.withdraw.proofs.can_be_taken_back.Statement.{statement}
@@ -10,7 +10,7 @@ returns c =
     let l = c.before in
     let st = l.before.before.before in
     let a = st.args in
-    sym (question_12 a.s.now a.c a.n st.requires.1 ∙ rw (sym l.is-unticketed.ensures ∙ not_true _ c.if1.true))
+    sym (question_12 a.s.now a.c a.n st.requires.1 ∙ rw (sym l.is-unticketed.ensures ∙ not-true _ c.if1.true))
 
 returns-2 : tie.Need-returns-2
 returns-2 c =
@@ -19,7 +19,7 @@ returns-2 c =
     let l = i.before in
     let st = l.before.before.before in
     let a = st.args in
-    sym (question_12 a.s.now a.c a.n st.requires.1 ∙ rw (sym l.is-unticketed.ensures ∙ not-false _ i.if1.false, sym w.is-asked.ensures ∙ not_true _ c.if2.true))
+    sym (question_12 a.s.now a.c a.n st.requires.1 ∙ rw (sym l.is-unticketed.ensures ∙ not-false _ i.if1.false, sym w.is-asked.ensures ∙ not-true _ c.if2.true))
 
 returns-3 : tie.Need-returns-3
 returns-3 c =

@@ -1,5 +1,5 @@
 -- `together`: the machine's bit, and its buddy's.
-use Rattle.lists.specs.Basics.{sym, ◌∙◌, arith, needs, not_true, not-false}
+use Rattle.lists.specs.Basics.{sym, ◌∙◌, arith, needs, not-true, not-false}
 use Rattle.crashsets.specs.Machines.{few, buddy_low, buddy_high}
 use Rattle.crashsets.proofs.sets.together.Statement.{statement}
 use Rattle.crashsets.proofs.sets.together.Tie as tie
@@ -8,7 +8,7 @@ stands-requires : tie.Need-stands-requires
 stands-requires c κs = let st = c.before in (st.requires.1.0, omega (arith, st.requires.1.1, few _ st.requires.0))
 
 returns : tie.Need-returns
-returns c = rw (sym c.before.stands.ensures ∙ not_true _ c.if1.true)
+returns c = rw (sym c.before.stands.ensures ∙ not-true _ c.if1.true)
 
 stands-requires-2 : tie.Need-stands-requires-2
 stands-requires-2 c κs =

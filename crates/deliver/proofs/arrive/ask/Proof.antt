@@ -1,5 +1,5 @@
 -- `ask`: an entry found, the SN worked, a refusal, or a new ticket.
-use Rattle.lists.specs.Basics.{none, ◌≡◌, refl, sym, ap, ◌∙◌, false, ◌-◌, ◌<◌, arith, mod-eq_of_lt, lt-leb, le-leb, lt-ltb, le-ltb, needs, not_true, not-false, length}
+use Rattle.lists.specs.Basics.{none, ◌≡◌, refl, sym, ap, ◌∙◌, false, ◌-◌, ◌<◌, arith, mod-eq_of_lt, lt-leb, le-leb, lt-ltb, le-ltb, needs, not-true, not-false, length}
 use Rattle.lists.specs.Questions.{ok, put_all}
 use Rattle.arrays.specs.Front.{push}
 use Rattle.protocol.specs.{Parts.{Memory, number_limit, table_room}, Packets.is_worked, Window.worked}
@@ -79,7 +79,7 @@ returns-4 c =
     let w = worked-of t in
     refusing (start_of w).args.m.now _ _ 8 (omega arith) c.refused2.ensures
     (ask_new _ _ _ (tn-at t) w.before.seen.ensures (no-entry w) (not-worked (else-of t))
-    (le-leb t.next_tn.result number_limit (omega arith)) (sym d.admitted.ensures ∙ not_true _ c.before.if3.true) refl) refl
+    (le-leb t.next_tn.result number_limit (omega arith)) (sym d.admitted.ensures ∙ not-true _ c.before.if3.true) refl) refl
 
 returns-5 : tie.Need-returns-5
 unfolding put_all

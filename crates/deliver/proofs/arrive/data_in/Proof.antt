@@ -1,5 +1,5 @@
 -- `data_in`: no entry, a received one, or one that is filled.
-use Rattle.lists.specs.Basics.{◌∙◌, ap, sym, ◌%◌, arith, needs, not_true, not-false}
+use Rattle.lists.specs.Basics.{◌∙◌, ap, sym, ◌%◌, arith, needs, not-true, not-false}
 use Rattle.protocol.specs.{Tickets.{entry, filled}, declared.Rule.TheVariants.DataFilled}
 use Rattle.tickets.specs.Table.{found_entry}
 use Rattle.memory.specs.View.{table_part, table_changed}
@@ -18,7 +18,7 @@ returns c =
     let a = st.args in
     let e = ap (λ l. entry l a.sender a.sn) (table_part a.m.now) ∙ sym k.find.ensures ∙ ap found_entry x.e.given.1 in
     ap (quiet DataFilled) (table_changed a.m.now t.fill.new.0 st.requires (omega arith) (filled a.sender a.sn a.value (a.hops % 8)) t.fill.ensures.0.items)
-    ∙ rw (e, not_true x.e.given.0.0.received i.if1.true)
+    ∙ rw (e, not-true x.e.given.0.0.received i.if1.true)
 
 returns-2 : tie.Need-returns-2
 unfolding effect_of reply_of found_entry data_effect

@@ -1,6 +1,6 @@
 -- `links::good` meets its contract. Assumes nothing.
 use borrow.Author.Rules.{rules}
-use Rattle.lists.specs.Basics.{◌≡◌, sym, true, arith, not_true, not-false}
+use Rattle.lists.specs.Basics.{◌≡◌, sym, true, arith, not-true, not-false}
 use Rattle.precedes.specs.{Precedes.in_range, Links.{admits, ranged, not_ranged}}
 use Rattle.precedes.proofs.links.good.Statement.{statement}
 use Rattle.precedes.proofs.links.good.Tie as tie
@@ -33,7 +33,7 @@ in-it c = let e = c.before.before in let o = e.before.before in ranged _ (omega 
 
 returns-4 : tie.Need-returns-4
 unfolding admits
-returns-4 c = let s = c.before in rw (in-it s.before, sym s.is_sent.ensures, not_true s.is_sent.result c.if4.true)
+returns-4 c = let s = c.before in rw (in-it s.before, sym s.is_sent.ensures, not-true s.is_sent.result c.if4.true)
 
 returns-5 : tie.Need-returns-5
 unfolding admits

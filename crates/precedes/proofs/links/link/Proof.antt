@@ -1,6 +1,6 @@
 -- `links::link` meets its contract: by the laws of `Steps`, one for each way a turn goes. Assumes nothing.
 use borrow.Author.Rules.{rules}
-use Rattle.lists.specs.Basics.{◌≡◌, sym, ◌∙◌, true, ◌-◌, arith, length, get_or, length-map, not_true, not-false}
+use Rattle.lists.specs.Basics.{◌≡◌, sym, ◌∙◌, true, ◌-◌, arith, length, get_or, length-map, not-true, not-false}
 use Rattle.precedes.specs.{Rows.nobody, Links.admits}
 use Rattle.precedes.specs.Steps.{SoFar, at_kept, before_kept, sent_kept, none_read, all_read, past_bad, one_bad, record_tabled, one_more}
 use denote.Struct.Laws as LL
@@ -63,7 +63,7 @@ same-length-6 c = let l = turn (judged c.before) in sent_kept l.loop.inv _ (star
 
 returns-2 : tie.Need-returns-2 invariant-loop decreases-loop
 returns-2 c = let o = judged c.before in
-    one_bad (turn o).loop.inv o.before.loop-test.taken o.if1.left (sym c.before.good2.ensures ∙ not_true _ c.if2.true)
+    one_bad (turn o).loop.inv o.before.loop-test.taken o.if1.left (sym c.before.good2.ensures ∙ not-true _ c.if2.true)
 
 -- ---- a good one
 passed : (c : tie.Else2 invariant-loop decreases-loop) → let l = turn (judged c.before) in admits l.loop.at (get_or (start l).args.t1.records l.loop.i nobody) ≡ true

@@ -1,5 +1,5 @@
 -- `tables` goes through the chares. The loop: the tables below n are built.
-use Rattle.lists.specs.Basics.{◌≡◌, ◌-◌, ◌≤◌, arith, not_true, not-false, length, needs}
+use Rattle.lists.specs.Basics.{◌≡◌, ◌-◌, ◌≤◌, arith, not-true, not-false, length, needs}
 use Rattle.store.specs.View.{view}
 use Rattle.restart.specs.{OnMachine.home_at, Homes.{ROWS, Going, going_start, going_end, going_skip, going_stop, going_more}}
 use Rattle.restart.proofs.back.tables.Statement.{statement}
@@ -20,7 +20,7 @@ returns c =
     let l = c.before.before.before.before.before.before.before.before.loop in
     let b = c.before.before.before.build in
     let here = home_at a.s.now a.p l.n _ _ c.before.before.before.before.before.before.on.ensures c.before.before.before.before.before.if1.true in
-    going_stop (view a.s.now) a.p l.n l.rows l.invariant.3 (omega arith) here b.result _ b.ensures.0 (not_true _ c.if2.true) _
+    going_stop (view a.s.now) a.p l.n l.rows l.invariant.3 (omega arith) here b.result _ b.ensures.0 (not-true _ c.if2.true) _
 
 loop-again : tie.Need-loop-preserved invariant-loop decreases-loop
 loop-again c =

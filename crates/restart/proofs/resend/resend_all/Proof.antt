@@ -1,5 +1,5 @@
 -- `resend_all` goes through the logs. The loop: those from q on are still to be sent.
-use Rattle.lists.specs.Basics.{◌≡◌, refl, ◌-◌, ◌≤◌, arith, not_true, not-false, length, needs}
+use Rattle.lists.specs.Basics.{◌≡◌, refl, ◌-◌, ◌≤◌, arith, not-true, not-false, length, needs}
 use Rattle.lists.specs.Lists.{gather}
 use Rattle.protocol.specs.Parts.{every_chare, every_sender}
 use Rattle.item.specs.Item.{items}
@@ -27,8 +27,8 @@ returns c =
     let l = c.before.before.before.before.before.before.loop in
     let f = c.before.before.before.resend-from in
     let e = range_next 13 l.q (omega arith) in (
-      more_stop 128 one_more (all_again (view a.s.now) a.p) _ (packets l.wire) _ l.invariant.2 l.q _ e f.result _ f.ensures.0 (not_true _ c.if1.true),
-      more_stop 128 word_more (all_again (view a.s.now) a.p) _ (items l.wire) _ l.invariant.3 l.q _ e f.result _ f.ensures.1 (not_true _ c.if1.true),
+      more_stop 128 one_more (all_again (view a.s.now) a.p) _ (packets l.wire) _ l.invariant.2 l.q _ e f.result _ f.ensures.0 (not-true _ c.if1.true),
+      more_stop 128 word_more (all_again (view a.s.now) a.p) _ (items l.wire) _ l.invariant.3 l.q _ e f.result _ f.ensures.1 (not-true _ c.if1.true),
     )
 
 loop-again : tie.Need-loop-preserved invariant-loop decreases-loop

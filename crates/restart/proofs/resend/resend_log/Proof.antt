@@ -1,5 +1,5 @@
 -- `resend_log` goes through a log. The loop: the messages from i on are still to be sent.
-use Rattle.lists.specs.Basics.{◌≡◌, refl, ap, ◌∙◌, ◌-◌, ◌≤◌, arith, not_true, not-false, length, drop, drop_of_length-le, needs}
+use Rattle.lists.specs.Basics.{◌≡◌, refl, ap, ◌∙◌, ◌-◌, ◌≤◌, arith, not-true, not-false, length, drop, drop_of_length-le, needs}
 use Rattle.lists.specs.Lists.{gather}
 use Rattle.logs.specs.{Log.{logged_of, entries as messages}, Fits.at_fits}
 use Rattle.item.specs.Item.{items}
@@ -30,9 +30,9 @@ returns c =
     let e = next (messages a.l.now) l.i x.result (logged_of 0) x.ensures (omega arith) in (
       more_stop 128 one_more (again (view a.s.now) a.p a.here) _ (packets l.wire) _ l.invariant.2 x.result _ e f.result (packets f.new.0)
           (put_again x.result (rw x.ensures (at_fits a.l.now l.i)) (view a.s.now) a.p a.here o.result o.ensures (packets l.wire) _ f.ensures.0)
-          (not_true _ c.if1.true),
+          (not-true _ c.if1.true),
       more_stop 128 word_more (again (view a.s.now) a.p a.here) _ (items l.wire) _ l.invariant.3 x.result _ e f.result (items f.new.0)
-          (f.ensures.1 ∙ ap (putting_words (items l.wire)) o.ensures) (not_true _ c.if1.true),
+          (f.ensures.1 ∙ ap (putting_words (items l.wire)) o.ensures) (not-true _ c.if1.true),
     )
 
 loop-again : tie.Need-loop-preserved invariant-loop decreases-loop

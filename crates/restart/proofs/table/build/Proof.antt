@@ -1,5 +1,5 @@
 -- `build` is three walks, each from the table that the one before left, and the messages that fill.
-use Rattle.lists.specs.Basics.{not_true, not-false, length-set, needs}
+use Rattle.lists.specs.Basics.{not-true, not-false, length-set, needs}
 use Rattle.restart.specs.{Built.{build_stop, build_stop_2, build_stop_3, build_all}, Words.{packed_none, packed_words}}
 use Rattle.restart.proofs.table.build.Statement.{statement}
 use Rattle.restart.proofs.table.build.Tie as tie
@@ -13,7 +13,7 @@ returns c =
     let a = st.args in
     let f = c.before.before.before.from_copy in (
       build_stop a.s.now a.p a.c st.requires.2 st.requires.3 _ c.before.before.before.before.before.before.height.ensures a.row.now st.requires.1
-          f.new.0 f.result f.ensures.0 (not_true _ c.if1.true),
+          f.new.0 f.result f.ensures.0 (not-true _ c.if1.true),
       packed_words _ (f.ensures.1 (packed_none a.row.now st.requires.1)),
     )
 
@@ -31,7 +31,7 @@ returns-2 c =
     let g = c.before.before.before.from-logs in (
       build_stop_2 a.s.now a.p a.c st.requires.2 st.requires.3 _ c.before.before.before.before.before.before.before.before.before.before.before.height.ensures a.row.now st.requires.1
           f.new.0 f.result f.ensures.0 (not-false _ c.before.before.before.before.before.if1.false)
-          g.new.0 g.result g.ensures.0 (not_true _ c.if2.true),
+          g.new.0 g.result g.ensures.0 (not-true _ c.if2.true),
       packed_words _ (g.ensures.1 (f.ensures.1 (packed_none a.row.now st.requires.1))),
     )
 
@@ -51,7 +51,7 @@ returns-3 c =
       build_stop_3 a.s.now a.p a.c st.requires.2 st.requires.3 _ c.before.before.before.before.before.before.before.before.before.before.before.before.before.before.before.before.before.height.ensures a.row.now st.requires.1
           f.new.0 f.result f.ensures.0 (not-false _ c.before.before.before.before.before.before.before.before.before.before.before.if1.false)
           g.new.0 g.result g.ensures.0 (not-false _ c.before.before.before.before.before.before.if2.false)
-          n.new.0 n.result n.ensures.0 (not_true _ c.if3.true),
+          n.new.0 n.result n.ensures.0 (not-true _ c.if3.true),
       packed_words _ (n.ensures.1 (g.ensures.1 (f.ensures.1 (packed_none a.row.now st.requires.1)))),
     )
 

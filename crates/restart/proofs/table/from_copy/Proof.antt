@@ -1,5 +1,5 @@
 -- `from_copy` enters the tickets of a copy. The loop: the entries from i on are still to be entered.
-use Rattle.lists.specs.Basics.{not_true, not-false, ◌≡◌, refl, ◌-◌, ◌≤◌, arith, length, drop, drop_of_length-le, needs}
+use Rattle.lists.specs.Basics.{not-true, not-false, ◌≡◌, refl, ◌-◌, ◌≤◌, arith, length, drop, drop_of_length-le, needs}
 use Rattle.restart.specs.{Gather.next, Limited.{more_end, more_on, more_stop}, Tables.{entering, entering_one}, Sources.copied}
 use Rattle.restart.specs.Words.{AllPacked, packed_enter}
 use Rattle.lists.specs.Lists.{gather}
@@ -28,7 +28,7 @@ returns c =
       more_stop 16 enter copied _ (entries l.row) _ l.invariant.2
           x.result _ (next (entries a.t.now) l.i x.result (entry_of 0) x.ensures (omega arith))
           e.result (entries e.new.0)
-          (entering_one l.row e.new.0 x.result.sender _ _ e.result l.invariant.1 (rw (x.ensures, entry_at a.t.now l.i) (sender_small _)) e.ensures) (not_true _ c.if1.true),
+          (entering_one l.row e.new.0 x.result.sender _ _ e.result l.invariant.1 (rw (x.ensures, entry_at a.t.now l.i) (sender_small _)) e.ensures) (not-true _ c.if1.true),
       λ h. packed_enter e.ensures (l.invariant.3 h),
     )
 

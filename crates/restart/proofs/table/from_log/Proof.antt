@@ -1,5 +1,5 @@
 -- `from_log` enters the tickets of a log. The loop: the messages from i on are still to be entered.
-use Rattle.lists.specs.Basics.{not_true, not-false, ◌≡◌, refl, sym, ◌∙◌, ◌-◌, ◌≤◌, arith, length, drop, drop_of_length-le, needs}
+use Rattle.lists.specs.Basics.{not-true, not-false, ◌≡◌, refl, sym, ◌∙◌, ◌-◌, ◌≤◌, arith, length, drop, drop_of_length-le, needs}
 use Rattle.restart.specs.{Gather.{chosen, next}, Limited.{more_end, more_skip, more_on, more_stop}, Tables.{entering, entering_one}, Sources.logged}
 use Rattle.restart.specs.Words.{AllPacked, packed_enter}
 use Rattle.lists.specs.Lists.{gather}
@@ -29,7 +29,7 @@ returns c =
       more_stop 16 enter (logged a.c a.h) _ (entries l.row) _ l.invariant.2
           x.result _ (next (messages a.l.now) l.i x.result (logged_of 0) x.ensures (omega arith))
           e.result (entries e.new.0)
-          (rw (sym c.before.before.before.before.before.before.before.is-above.ensures ∙ c.before.before.before.before.before.before.if1.true) (entering_one l.row e.new.0 x.result.message.sender _ _ e.result l.invariant.1 (rw x.ensures (at_fits a.l.now l.i).sender) e.ensures)) (not_true _ c.if2.true),
+          (rw (sym c.before.before.before.before.before.before.before.is-above.ensures ∙ c.before.before.before.before.before.before.if1.true) (entering_one l.row e.new.0 x.result.message.sender _ _ e.result l.invariant.1 (rw x.ensures (at_fits a.l.now l.i).sender) e.ensures)) (not-true _ c.if2.true),
       λ h. packed_enter e.ensures (l.invariant.3 h),
     )
 

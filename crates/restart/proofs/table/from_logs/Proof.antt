@@ -1,5 +1,5 @@
 -- `from_logs` goes through the logs. The loop: those from q on are still to be entered.
-use Rattle.lists.specs.Basics.{◌≡◌, refl, ◌-◌, ◌≤◌, arith, not_true, not-false, length, needs}
+use Rattle.lists.specs.Basics.{◌≡◌, refl, ◌-◌, ◌≤◌, arith, not-true, not-false, length, needs}
 use Rattle.restart.specs.Words.{AllPacked}
 use Rattle.lists.specs.Lists.{gather}
 use Rattle.protocol.specs.{Parts.{every_chare, every_sender}, Restart.{enter, other_log}}
@@ -27,11 +27,11 @@ returns c =
     let a = c.before.before.before.before.before.before.before.before.before.before.before.before.args in
     let l = c.before.before.before.before.before.before.before.before.before.loop in
     let f = c.before.before.before.from_log in
-    let there = home_at a.s.now a.p l.q _ _ c.before.before.before.before.before.before.before.on.ensures (not_true _ c.before.before.before.before.before.before.if1.true) in (
+    let there = home_at a.s.now a.p l.q _ _ c.before.before.before.before.before.before.before.on.ensures (not-true _ c.before.before.before.before.before.before.if1.true) in (
       more_stop 16 enter (sender_tickets (view a.s.now) a.p a.c a.h) _ (entries l.row) _ l.invariant.2
           l.q _ (range_next 13 l.q (omega arith)) f.result (entries f.new.0)
           (rw (there, live_log a.s.now l.q (omega arith)) f.ensures.0)
-          (not_true _ c.if2.true),
+          (not-true _ c.if2.true),
       λ h. f.ensures.1 (l.invariant.3 h),
     )
 
@@ -41,7 +41,7 @@ loop-again c =
     let a = c.before.before.before.before.before.before.before.before.before.before.before.before.args in
     let l = c.before.before.before.before.before.before.before.before.before.loop in
     let f = c.before.before.before.from_log in
-    let there = home_at a.s.now a.p l.q _ _ c.before.before.before.before.before.before.before.on.ensures (not_true _ c.before.before.before.before.before.before.if1.true) in (
+    let there = home_at a.s.now a.p l.q _ _ c.before.before.before.before.before.before.before.on.ensures (not-true _ c.before.before.before.before.before.before.if1.true) in (
       search needs,
       search needs,
       more_on 16 enter (sender_tickets (view a.s.now) a.p a.c a.h) _ (entries l.row) _ l.invariant.2

@@ -1,5 +1,5 @@
 -- `from_notes` enters the notes. The loop: those from i on are still to be entered.
-use Rattle.lists.specs.Basics.{not_true, not-false, ◌≡◌, refl, ◌-◌, ◌≤◌, arith, eq-eqb, ne_eqb, lt-ltb, le-ltb, length, drop, drop_of_length-le, needs}
+use Rattle.lists.specs.Basics.{not-true, not-false, ◌≡◌, refl, ◌-◌, ◌≤◌, arith, eq-eqb, ne_eqb, lt-ltb, le-ltb, length, drop, drop_of_length-le, needs}
 use Rattle.restart.specs.{Gather.{chosen, next}, Limited.{more_end, more_skip, more_on, more_stop}, Tables.{entering, entering_one}, Sources.noted}
 use Rattle.restart.specs.Words.{AllPacked, packed_enter}
 use Rattle.lists.specs.Lists.{gather}
@@ -30,7 +30,7 @@ returns c =
           x.result _ (next (notes a.w.now) l.i x.result (note_of 0) x.ensures (omega arith))
           e.result (entries e.new.0)
           (rw (eq-eqb x.result.receiver a.c (search needs), lt-ltb a.h x.result.tn (search needs))
-          (entering_one l.row e.new.0 x.result.sender _ _ e.result l.invariant.1 (rw x.ensures (at_fits a.w.now l.i).sender) e.ensures)) (not_true _ c.if3.true),
+          (entering_one l.row e.new.0 x.result.sender _ _ e.result l.invariant.1 (rw x.ensures (at_fits a.w.now l.i).sender) e.ensures)) (not-true _ c.if3.true),
       λ h. packed_enter e.ensures (l.invariant.3 h),
     )
 

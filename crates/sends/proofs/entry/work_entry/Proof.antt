@@ -1,4 +1,4 @@
-use Rattle.lists.specs.Basics.{refl, sym, ◌∙◌, not_true, not-false, ◌%◌, needs}
+use Rattle.lists.specs.Basics.{refl, sym, ◌∙◌, not-true, not-false, ◌%◌, needs}
 use Rattle.sends.specs.Worked.{not_ready, too_high, mark_too_high, worked}
 use Rattle.sends.proofs.entry.work_entry.Statement.{statement}
 use Rattle.sends.proofs.entry.work_entry.Tie as tie
@@ -8,7 +8,7 @@ returns c =
     let i = c.before in
     let r = i.before in
     let a = r.before.args in
-    rw c.refused.ensures (not_ready a.x a.e (sym r.both.ensures ∙ not_true r.both.result i.if1.true))
+    rw c.refused.ensures (not_ready a.x a.e (sym r.both.ensures ∙ not-true r.both.result i.if1.true))
 
 returns-2 : tie.Need-returns-2
 returns-2 c =

@@ -1,11 +1,11 @@
-use Rattle.lists.specs.Basics.{not_true, not-false, needs}
+use Rattle.lists.specs.Basics.{not-true, not-false, needs}
 use Rattle.sends.specs.{Plan.extra_after, Ticket.is_new}
 use Rattle.sends.proofs.plan.extra_after.Statement.{statement}
 use Rattle.sends.proofs.plan.extra_after.Tie as tie
 
 returns : tie.Need-returns
 unfolding extra_after
-returns c = rw (not_true c.before.args.same c.if1.true)
+returns c = rw (not-true c.before.args.same c.if1.true)
 
 returns-2 : tie.Need-returns-2
 unfolding extra_after is_new

@@ -1,11 +1,11 @@
-use Rattle.lists.specs.Basics.{needs, not_true, not-false, lt-ltb, le-ltb}
+use Rattle.lists.specs.Basics.{needs, not-true, not-false, lt-ltb, le-ltb}
 use Rattle.sends.specs.{Plan.last_after, Ticket.sn_next}
 use Rattle.sends.proofs.plan.last_after.Statement.{statement}
 use Rattle.sends.proofs.plan.last_after.Tie as tie
 
 returns : tie.Need-returns
 unfolding last_after
-returns c = rw (not_true c.before.args.same c.if1.true)
+returns c = rw (not-true c.before.args.same c.if1.true)
 
 returns-2 : tie.Need-returns-2
 unfolding last_after sn_next

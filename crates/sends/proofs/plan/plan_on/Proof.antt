@@ -1,4 +1,4 @@
-use Rattle.lists.specs.Basics.{not_true, not-false, lt-ltb, le-ltb, arith, needs}
+use Rattle.lists.specs.Basics.{not-true, not-false, lt-ltb, le-ltb, arith, needs}
 use Rattle.sends.specs.{Plan.{plan_for, local_plan}, Room.extra_top}
 use Rattle.memory.specs.View.{table_part}
 use Rattle.tickets.specs.Table.{found_entry}
@@ -9,7 +9,7 @@ returns : tie.Need-returns
 returns c = unfold plan_for in rw (le-ltb c.before.before.before.args.last 60000 c.before.if1.true) c.idle.ensures
 
 returns-2 : tie.Need-returns-2
-returns-2 c = let a = c.before.before.before.before.args in unfold plan_for in rw (lt-ltb a.last 60000 c.before.before.if1.false, not_true a.near c.before.if2.true) c.idle2.ensures
+returns-2 c = let a = c.before.before.before.before.args in unfold plan_for in rw (lt-ltb a.last 60000 c.before.before.if1.false, not-true a.near c.before.if2.true) c.idle2.ensures
 
 new-plan-requires : tie.Need-new-plan-requires
 new-plan-requires c κs = let a = c.before.before.before.before.before.before.before.before.before.before.args in (search needs, omega (arith, extra_top a.same a.k, c.extra_after.ensures))

@@ -1,15 +1,15 @@
-use Rattle.lists.specs.Basics.{not_true, not-false, le-leb, lt-leb}
+use Rattle.lists.specs.Basics.{not-true, not-false, le-leb, lt-leb}
 use Rattle.lists.specs.Questions.{first_no}
 use Rattle.sends.proofs.verdict.answer.Statement.{statement}
 use Rattle.sends.proofs.verdict.answer.Tie as tie
 
 returns : tie.Need-returns
 unfolding first_no
-returns c = rw (not_true c.before.args.fits c.if1.true)
+returns c = rw (not-true c.before.args.fits c.if1.true)
 
 returns-2 : tie.Need-returns-2
 unfolding first_no
-returns-2 c = let a = c.before.before.args in rw (not-false a.fits c.before.if1.false, not_true a.admits c.if2.true)
+returns-2 c = let a = c.before.before.args in rw (not-false a.fits c.before.if1.false, not-true a.admits c.if2.true)
 
 returns-3 : tie.Need-returns-3
 unfolding first_no
@@ -19,7 +19,7 @@ returns-4 : tie.Need-returns-4
 unfolding first_no
 returns-4 c =
     let a = c.before.before.before.before.args in
-    rw (not-false a.fits c.before.before.before.if1.false, not-false a.admits c.before.before.if2.false, le-leb a.log 16 c.before.if3.false, not_true a.room c.if4.true)
+    rw (not-false a.fits c.before.before.before.if1.false, not-false a.admits c.before.before.if2.false, le-leb a.log 16 c.before.if3.false, not-true a.room c.if4.true)
 
 returns-5 : tie.Need-returns-5
 unfolding first_no
