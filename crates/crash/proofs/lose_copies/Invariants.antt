@@ -1,0 +1,11 @@
+use Rattle.lists.specs.Basics.{◌≡◌, ap, ◌+◌, ◌-◌, ◌*◌, ◌≤◌, arith, rules, length}
+use Rattle.memory.specs.Places.{MEMORY}
+use Rattle.store.specs.{Places.{STORE, COPY}, View.view, Visits.visit_none}
+use Rattle.crash.specs.Memories.{copy_to, with_copy_map, copy_miss, copy_hit, copy_end}
+use Rattle.crash.proofs.lose_copies.Given as goal
+
+abbrev pub invariant-loop-n : goal.invariant-loop-n
+invariant-loop-n l = (l.n ≤ 13) × (length l.s ≡ STORE) × (view l.s ≡ copy_to (view l.initial.s) l.p l.n)
+
+abbrev pub decreases-loop-n : goal.decreases-loop-n
+decreases-loop-n l = 13 - l.n

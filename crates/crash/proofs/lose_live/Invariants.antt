@@ -1,0 +1,12 @@
+use Rattle.lists.specs.Basics.{◌≡◌, sym, ap, ◌∙◌, ◌+◌, ◌-◌, ◌*◌, ◌≤◌, arith, rules, length}
+use Rattle.memory.specs.Places.{MEMORY}
+use Rattle.protocol.specs.Setters.{with_live}
+use Rattle.store.specs.{Places.{STORE, LIVE}, View.view, Visits.visit_none}
+use Rattle.crash.specs.Memories.{live_to, live_miss, live_hit, live_end}
+use Rattle.crash.proofs.lose_live.Given as goal
+
+abbrev pub invariant-loop-n : goal.invariant-loop-n
+invariant-loop-n l = (l.n ≤ 13) × (length l.s ≡ STORE) × (view l.s ≡ live_to (view l.initial.s) l.p l.n)
+
+abbrev pub decreases-loop-n : goal.decreases-loop-n
+decreases-loop-n l = 13 - l.n

@@ -1,0 +1,10 @@
+use Rattle.lists.specs.Basics.{◌≡◌, ◌+◌, ◌-◌, ◌*◌, ◌≤◌, arith, rules, length-set, length}
+use Rattle.store.specs.{Visits.{visit_none, held_length}, Places.{STORE, NOTES, NOTELIST}, View.view}
+use Rattle.crash.specs.Keeping.{kept_to, both, kept_miss, kept_hit, kept_end}
+use Rattle.crash.proofs.lose_notes.Given as goal
+
+abbrev pub invariant-loop-n : goal.invariant-loop-n
+invariant-loop-n l = (l.n ≤ 7) × (length l.s ≡ STORE) × (view l.s ≡ kept_to (view l.initial.s) l.p l.n)
+
+abbrev pub decreases-loop-n : goal.decreases-loop-n
+decreases-loop-n l = 7 - l.n

@@ -1,0 +1,8 @@
+-- `crash::lose_packets` meets its contract: the head is copied, then the wire is lent.
+use Rattle.lists.specs.Basics.{arith, rules}
+use Rattle.crash.specs.Whole.{wire_is}
+use Rattle.crash.proofs.lose_packets.Goals as goal
+
+pub returns : goal.returns
+returns c =
+    wire_is c.args.s.now c.copy-h.result c.after_crash.new.ws c.args.p c.requires (omega arith) c.copy-h.ensures c.after_crash.ensures.row.items

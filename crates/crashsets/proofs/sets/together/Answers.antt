@@ -1,0 +1,20 @@
+-- `together`: the machine's bit, and its buddy's.
+use Rattle.lists.specs.Basics.{sym, ◌∙◌, arith, rules, not-true, not-false}
+use Rattle.crashsets.specs.Machines.{few, buddy_low, buddy_high}
+use Rattle.crashsets.proofs.sets.together.Goals as goal
+
+pub stands-requires : goal.stands-requires
+stands-requires c = (c.requires.le_p.0, omega (arith, c.requires.le_p.1, few _ c.requires.line_value))
+
+pub returns-then-not-stands : goal.returns-then-not-stands
+returns-then-not-stands c = rw (sym c.stands.ensures ∙ not-true _ c.if-not-stands.true-raw)
+
+pub stands-requires-2 : goal.stands-requires-2
+stands-requires-2 c =
+    let p = c.requires in
+    let e = c.buddy_of.ensures in
+    (omega (arith, e, buddy_low _ p.0 c.args.p p.1.0 p.1.1), omega (arith, e, buddy_high _ p.0 c.args.p p.1.0 p.1.1, few _ p.0))
+
+pub returns : goal.returns
+returns c =
+    rw (sym c.stands.ensures ∙ not-false _ c.if-not-stands.false-raw, ← c.buddy_of.ensures) c.stands-2.ensures

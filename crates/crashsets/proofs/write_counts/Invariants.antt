@@ -1,0 +1,11 @@
+use Rattle.lists.specs.Basics.{◌≡◌, refl, ◌∙◌, ◌+◌, ◌-◌, ◌≤◌, arith, rules, length}
+use Rattle.protocol.specs.Job.{machines_of, job_of}
+use Rattle.frames.specs.Decode.{decoded}
+use Rattle.crashsets.specs.{Machines.few, Digits.{SoFar, nothing_yet, one_more, all_lines, total_small, survived_small}}
+use Rattle.crashsets.proofs.write_counts.Given as goal
+
+abbrev pub invariant-loop-f : goal.invariant-loop-f
+invariant-loop-f l = (length l.out ≡ length l.initial.out) × (1 ≤ l.f) × (l.f ≤ l.m + 1) × SoFar (job_of (decoded l.line)) l.initial.out l.f l.written l.out
+
+abbrev pub decreases-loop-f : goal.decreases-loop-f
+decreases-loop-f l = l.m + 1 - l.f

@@ -1,0 +1,10 @@
+use Rattle.lists.specs.Basics.{◌≡◌, sym, ◌∙◌, ◌≤◌, ◌-◌, arith, rules, eq-eqb, ne_eqb, add-one, length, drop, drop-cons, drop_of_length-le}
+use Rattle.lists.specs.Lists.{allb}
+use Rattle.frames.specs.{Decode.{is_digit, is_hexadecimal}, CodeLaws.{digit_true, digit_false}}
+use Rattle.frames.proofs.is_hexadecimal.Given as goal
+
+abbrev pub invariant-loop-i : goal.invariant-loop-i
+invariant-loop-i l = (l.i ≤ length l.line) × (is_hexadecimal l.line ≡ allb is_digit (drop l.i l.line))
+
+abbrev pub decreases-loop-i : goal.decreases-loop-i
+decreases-loop-i l = length l.line - l.i

@@ -1,0 +1,9 @@
+use Rattle.lists.specs.Basics.{◌≡◌, refl, ◌-◌, ◌≤◌, arith, rules, length, length-set, take}
+use Rattle.head.specs.{Head.HEAD, HeadLaws.{copy_one, copy_all}}
+use Rattle.head.proofs.copy.Given as goal
+
+abbrev pub invariant-loop-i : goal.invariant-loop-i
+invariant-loop-i l = (l.i ≤ HEAD) × (length l.a ≡ HEAD) × (take l.i l.a ≡ take l.i l.h)
+
+abbrev pub decreases-loop-i : goal.decreases-loop-i
+decreases-loop-i l = HEAD - l.i

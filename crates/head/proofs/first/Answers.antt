@@ -1,0 +1,8 @@
+-- `head::first` meets its contract: a cell of the view.
+use Rattle.lists.specs.Basics.{rules}
+use Rattle.head.specs.Head.{job_of}
+use Rattle.head.proofs.first.Goals as goal
+
+pub returns : goal.returns
+unfolding job_of
+returns c = record { is = c.cell.ensures.is; small = c.cell.ensures.small }

@@ -1,0 +1,8 @@
+-- `head::is_held` meets its contract: a word of the view.
+use Rattle.lists.specs.Basics.{rules}
+use Rattle.head.specs.Head.{held_of}
+use Rattle.head.proofs.is_held.Goals as goal
+
+pub returns : goal.returns
+unfolding held_of
+returns c = rw c.word.ensures

@@ -1,0 +1,10 @@
+-- `head::machines` meets its contract: the clamp is that of the view.
+use Rattle.lists.specs.Basics.{◌∙◌, arith, rules}
+use Rattle.words.specs.Part.{part_at}
+use Rattle.head.specs.Head.{MACHINES, job_of}
+use Rattle.head.proofs.machines.Goals as goal
+
+pub returns : goal.returns
+unfolding job_of
+returns c =
+    record { is = c.at_most.ensures ∙ rw (part_at 0 4 MACHINES c.args.h.now 0 (omega arith)); small = omega arith }

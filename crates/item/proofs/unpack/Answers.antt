@@ -1,0 +1,6 @@
+use Rattle.lists.specs.Basics.{refl, rules}
+use Rattle.item.specs.Item.{item_of}
+use Rattle.item.proofs.unpack.Goals as goal
+
+pub returns : goal.returns
+returns c = unfold item_of in refl

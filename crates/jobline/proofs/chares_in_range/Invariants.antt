@@ -1,0 +1,14 @@
+use Rattle.lists.specs.Basics.{◌≡◌, sym, ◌∙◌, ◌≤◌, ◌-◌, arith, rules, not-true, not-false}
+use Rattle.lists.specs.Lists.{allb}
+use Rattle.protocol.specs.Parts.{every_chare}
+use Rattle.frames.specs.Decode.{decoded}
+use Rattle.jobline.specs.Passes.{chares_in_range, chare_passes}
+use Rattle.lists.specs.Counting.{counting}
+use Rattle.arrays.specs.Loops.{each, each_hit, each_miss, each_end, allb_keep}
+use Rattle.jobline.proofs.chares_in_range.Given as goal
+
+abbrev pub invariant-loop-c : goal.invariant-loop-c
+invariant-loop-c l = (1 ≤ l.c) × (l.c ≤ 13) × (chares_in_range (decoded l.line) ≡ each (chare_passes (decoded l.line)) (13 - l.c) l.c)
+
+abbrev pub decreases-loop-c : goal.decreases-loop-c
+decreases-loop-c l = 13 - l.c

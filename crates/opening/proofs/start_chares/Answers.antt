@@ -1,0 +1,17 @@
+-- `opening::start_chares` meets its contract: those before c have started.
+use Rattle.lists.specs.Basics.{◌≡◌, ap, ◌∙◌, ◌+◌, ◌-◌, ◌≤◌, arith, rules, length}
+use Rattle.store.specs.{Places.STORE, View.view}
+use Rattle.opening.specs.States.{started, below, below_start, below_more, below_end}
+use Rattle.opening.proofs.start_chares.Goals as goal
+
+pub loop-c-init : goal.loop-c-init
+loop-c-init c = (search rules, search rules, search rules, below_start _ _)
+
+pub loop-c-preserved : goal.loop-c-preserved
+loop-c-preserved c =
+    (search rules, search rules, search rules, c.start_chare.ensures ∙ ap (λ v. started v c.loop-c.c) c.loop-c.invariant.3 ∙ below_more _ _ c.loop-c.c c.loop-c.invariant.0 (omega arith))
+
+pub returns : goal.returns
+returns c =
+    let l = c.loop-c in
+    l.invariant.3 ∙ below_end _ _ l.c (omega arith)

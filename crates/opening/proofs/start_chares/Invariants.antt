@@ -1,0 +1,10 @@
+use Rattle.lists.specs.Basics.{◌≡◌, ap, ◌∙◌, ◌+◌, ◌-◌, ◌≤◌, arith, rules, length}
+use Rattle.store.specs.{Places.STORE, View.view}
+use Rattle.opening.specs.States.{started, below, below_start, below_more, below_end}
+use Rattle.opening.proofs.start_chares.Given as goal
+
+abbrev pub invariant-loop-c : goal.invariant-loop-c
+invariant-loop-c l = (1 ≤ l.c) × (l.c ≤ l.n + 1) × (length l.s ≡ STORE) × (view l.s ≡ below (view l.initial.s) l.n l.c)
+
+abbrev pub decreases-loop-c : goal.decreases-loop-c
+decreases-loop-c l = l.n + 1 - l.c

@@ -1,0 +1,8 @@
+-- `packets::after_restart` meets its contract: the packets that stay are those that go elsewhere.
+use Rattle.lists.specs.Basics.{rules}
+use Rattle.packets.specs.Stays.{stays, is_kept}
+use Rattle.packets.proofs.after_restart.Goals as goal
+
+pub returns : goal.returns
+unfolding is_kept stays
+returns c = record { row = c.sift.ensures.row; words = c.sift.ensures.words }

@@ -1,0 +1,9 @@
+-- `packets::count` meets its contract: a packet a word.
+use Rattle.lists.specs.Basics.{sym, ◌∙◌, length-map, rules}
+use Rattle.words.specs.Rows.{row}
+use Rattle.packets.specs.Words.{unpacked, packets}
+use Rattle.packets.proofs.count.Goals as goal
+
+pub returns : goal.returns
+unfolding packets
+returns c = c.count.ensures.is ∙ sym (length-map (row _) unpacked)

@@ -1,0 +1,14 @@
+-- `links::is_sent` meets its contract. Assumes nothing.
+use borrow.Author.Rules.{rules}
+use Rattle.lists.specs.Basics.{eq-eqb, ne_eqb}
+use Rattle.precedes.specs.Links.{sent_by}
+use Rattle.precedes.proofs.links.is_sent.Goals as goal
+
+pub returns-then-sender-eq0 : goal.returns-then-sender-eq0
+returns-then-sender-eq0 c = unfold sent_by in rw (eq-eqb _ 0 c.if-sender-eq0.true)
+
+pub returns : goal.returns
+returns c = unfold sent_by in rw (ne_eqb _ 0 c.if-sender-eq0.false, c.find.ensures)
+
+pub find-requires : goal.find-requires
+find-requires c = search rules

@@ -1,0 +1,10 @@
+use Rattle.lists.specs.Basics.{◌≡◌, ◌-◌, ◌≤◌, arith, not-true, not-false, length, rules}
+use Rattle.store.specs.View.{view}
+use Rattle.restart.specs.{OnMachine.home_at, Homes.{ROWS, Going, going_start, going_end, going_skip, going_stop, going_more}}
+use Rattle.restart.proofs.back.tables.Given as goal
+
+abbrev pub invariant-loop-n : goal.invariant-loop-n
+invariant-loop-n l = (1 ≤ l.n) × (l.n ≤ 13) × (length l.rows ≡ ROWS) × Going (view l.s) l.p l.n l.rows
+
+abbrev pub decreases-loop-n : goal.decreases-loop-n
+decreases-loop-n l = 13 - l.n

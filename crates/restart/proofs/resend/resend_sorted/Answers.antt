@@ -1,0 +1,9 @@
+-- `resend_sorted` sends a sorted copy of the log.
+use Rattle.lists.specs.Basics.{◌∙◌, rules}
+use Rattle.restart.proofs.resend.resend_sorted.Goals as goal
+
+pub returns : goal.returns
+returns c =
+    let r = c.resend_log in
+    let e = c.copy_over.ensures in
+    record { row = r.ensures.0 ∙ rw (c.sort.ensures.row.items, e); words = r.ensures.1 ∙ rw (c.sort.ensures.row.items, e) }

@@ -1,0 +1,14 @@
+use Rattle.lists.specs.Basics.{◌≡◌, refl, sym, ◌∙◌, ◌-◌, ◌≤◌, arith, length, rules}
+use Rattle.restart.specs.Words.{AllPacked}
+use Rattle.lists.specs.Lists.{keep, gather}
+use Rattle.protocol.specs.{Parts.every_chare, Restart.{fill_all, local_log}}
+use Rattle.tickets.specs.Table.{entries}
+use Rattle.store.specs.View.{view}
+use Rattle.restart.specs.{Fills.{filling, filling_append}, Ranges.{count_from, range, range_next, range_past}, Stored.copy_log, OnMachine.home_at}
+use Rattle.restart.proofs.table.fill_all.Given as goal
+
+abbrev pub invariant-loop-q : goal.invariant-loop-q
+invariant-loop-q l = (1 ≤ l.q) × (l.q ≤ 13) × (length l.row ≡ length l.initial.row) × (filling l.c l.h (entries l.initial.row) (gather (local_log (view l.s) l.p) every_chare) ≡ filling l.c l.h (entries l.row) (gather (local_log (view l.s) l.p) (range 13 l.q))) × (AllPacked l.initial.row → AllPacked l.row)
+
+abbrev pub decreases-loop-q : goal.decreases-loop-q
+decreases-loop-q l = 13 - l.q

@@ -1,0 +1,15 @@
+use Rattle.lists.specs.Basics.{not-true, not-false, ◌≡◌, refl, sym, ◌∙◌, ◌-◌, ◌≤◌, arith, length, drop, drop_of_length-le, rules}
+use Rattle.restart.specs.{Gather.{chosen, next}, Limited.{more_end, more_skip, more_on, more_stop}, Tables.{entering, entering_one}, Sources.logged}
+use Rattle.restart.specs.Words.{AllPacked, packed_enter}
+use Rattle.lists.specs.Lists.{gather}
+use Rattle.protocol.specs.Restart.{enter, ticket_of_logged}
+use Rattle.tickets.specs.Table.{entries}
+use Rattle.memory.specs.Places.{ROW}
+use Rattle.logs.specs.{Log.{entries as messages, logged_of}, Fits.at_fits}
+use Rattle.restart.proofs.table.from_log.Given as goal
+
+abbrev pub invariant-loop-i : goal.invariant-loop-i
+invariant-loop-i l = (l.i ≤ l.n) × (length l.row ≡ ROW) × (entering (entries l.initial.row) (gather (logged l.c l.h) (messages l.l)) ≡ entering (entries l.row) (gather (logged l.c l.h) (drop l.i (messages l.l)))) × (AllPacked l.initial.row → AllPacked l.row)
+
+abbrev pub decreases-loop-i : goal.decreases-loop-i
+decreases-loop-i l = l.n - l.i

@@ -1,0 +1,16 @@
+use Rattle.lists.specs.Basics.{◌≡◌, refl, ◌-◌, ◌≤◌, arith, not-true, not-false, length, rules}
+use Rattle.restart.specs.Words.{AllPacked}
+use Rattle.lists.specs.Lists.{gather}
+use Rattle.protocol.specs.{Parts.{every_chare, every_sender}, Restart.{enter, other_log}}
+use Rattle.tickets.specs.Table.{entries}
+use Rattle.memory.specs.Places.{ROW}
+use Rattle.store.specs.View.{view}
+use Rattle.restart.specs.{Limited.{more_end, more_skip, more_on, more_stop}, Tables.entering, Ranges.{count_from, range, range_next, range_past}}
+use Rattle.restart.specs.{Sources.sender_tickets, Stored.live_log, OnMachine.home_at}
+use Rattle.restart.proofs.table.from_logs.Given as goal
+
+abbrev pub invariant-loop-q : goal.invariant-loop-q
+invariant-loop-q l = (l.q ≤ 13) × (length l.row ≡ ROW) × (entering (entries l.initial.row) (gather (sender_tickets (view l.s) l.p l.c l.h) every_sender) ≡ entering (entries l.row) (gather (sender_tickets (view l.s) l.p l.c l.h) (range 13 l.q))) × (AllPacked l.initial.row → AllPacked l.row)
+
+abbrev pub decreases-loop-q : goal.decreases-loop-q
+decreases-loop-q l = 13 - l.q

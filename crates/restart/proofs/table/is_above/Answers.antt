@@ -1,0 +1,12 @@
+-- `is_above` asks for the receiver, then for the TN.
+use Rattle.lists.specs.Basics.{eq-eqb, ne_eqb, rules}
+use Rattle.protocol.specs.Restart.{is_ticketed_above}
+use Rattle.restart.proofs.table.is_above.Goals as goal
+
+pub returns-then-m-c : goal.returns-then-m-c
+unfolding is_ticketed_above
+returns-then-m-c c = let a = c.args in rw (ne_eqb a.x.message.receiver a.c (search rules))
+
+pub returns : goal.returns
+unfolding is_ticketed_above
+returns c = let a = c.args in rw (eq-eqb a.x.message.receiver a.c (search rules)) (search rules)

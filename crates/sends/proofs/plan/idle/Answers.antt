@@ -1,0 +1,7 @@
+use Rattle.lists.specs.Basics.{refl}
+use Rattle.sends.specs.Plan.{idle}
+use Rattle.sends.proofs.plan.idle.Goals as goal
+
+pub returns : goal.returns
+unfolding idle
+returns c = refl

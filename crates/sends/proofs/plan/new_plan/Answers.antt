@@ -1,0 +1,25 @@
+use Rattle.lists.specs.Basics.{le-leb, lt-leb, arith, rules}
+use Rattle.sends.specs.{Plan.new_plan, Reading.table_top}
+use Rattle.memory.specs.{Places.{TABLE, ROW}, View.table_part}
+use Rattle.words.specs.Part.{part}
+use Rattle.tickets.specs.Table.{entries}
+use Rattle.protocol.specs.Tickets.{next_tn}
+use Rattle.sends.proofs.plan.new_plan.Goals as goal
+
+pub returns-then-tn-gt60000 : goal.returns-then-tn-gt60000
+returns-then-tn-gt60000 c =
+    let a = c.args in
+    unfold new_plan in
+    rw (table_part a.y.now, ← c.top-top.ensures, lt-leb (next_tn a.base c.top-top.result (entries (part TABLE ROW a.y.now))) 60000 (omega (arith, c.next_tn-tn.ensures, c.if-tn-gt60000.true))) c.idle.ensures
+
+-- LEFT overflow-add-t21
+-- add-t21 c =
+--     let k = c.before in
+--     let st = k.before.before.before.before.before.before.before.before in
+--     omega (arith, table_top st.args.y.now st.requires.0, k.count.ensures, st.requires.1)
+
+pub returns : goal.returns
+returns c =
+    let a = c.args in
+    unfold new_plan in
+    rw (table_part a.y.now, ← c.top-top.ensures, ← c.seen-seen.ensures, le-leb (next_tn a.base c.top-top.result (entries (part TABLE ROW a.y.now))) 60000 (omega (arith, c.next_tn-tn.ensures, c.if-tn-gt60000.false)), ← c.next_tn-tn.ensures, ← c.count-count.ensures, ← c.admitted.ensures)

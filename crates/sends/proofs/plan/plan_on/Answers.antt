@@ -1,0 +1,28 @@
+use Rattle.lists.specs.Basics.{not-true, not-false, lt-ltb, le-ltb, arith, rules}
+use Rattle.sends.specs.{Plan.{plan_for, local_plan}, Room.extra_top}
+use Rattle.memory.specs.View.{table_part}
+use Rattle.tickets.specs.Table.{found_entry}
+use Rattle.sends.proofs.plan.plan_on.Goals as goal
+
+pub returns-then-last-ge60000 : goal.returns-then-last-ge60000
+returns-then-last-ge60000 c = unfold plan_for in rw (le-ltb c.args.last 60000 c.if-last-ge60000.true) c.idle.ensures
+
+pub returns-then-not-near : goal.returns-then-not-near
+returns-then-not-near c =
+    let a = c.args in unfold plan_for in rw (lt-ltb a.last 60000 c.if-last-ge60000.false, not-true a.near c.if-not-near.true-raw) c.idle-then-not-near.ensures
+
+pub new_plan-requires : goal.new_plan-requires
+new_plan-requires c =
+    let a = c.args in record { y_len = search rules; extra_bound = omega (arith, extra_top a.same a.k, c.extra_after.ensures) }
+
+pub returns-in-At : goal.returns-in-At
+returns-in-At c =
+    let a = c.args in
+    unfold plan_for local_plan found_entry in
+    rw (lt-ltb a.last 60000 c.if-last-ge60000.false, not-false a.near c.if-not-near.false-raw, table_part a.y.now, ← c.find.ensures, c.in-At.is) c.idle-in-At.ensures
+
+pub returns-in-Nothing : goal.returns-in-Nothing
+returns-in-Nothing c =
+    let a = c.args in
+    unfold plan_for local_plan found_entry in
+    rw (lt-ltb a.last 60000 c.if-last-ge60000.false, not-false a.near c.if-not-near.false-raw, ← c.height-h.ensures, ← c.base_after.ensures, ← c.extra_after.ensures, table_part a.y.now, ← c.find.ensures, c.in-Nothing.is, ← table_part a.y.now) c.new_plan.ensures

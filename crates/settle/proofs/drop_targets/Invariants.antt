@@ -1,0 +1,10 @@
+use Rattle.lists.specs.Basics.{◌≡◌, ◌∙◌, ap, ◌-◌, ◌≤◌, arith, rules, length}
+use Rattle.store.specs.{Places.STORE, View.view}
+use Rattle.settle.specs.Targets.{dropped, dropped_to, dropped_start, dropped_more, dropped_end}
+use Rattle.settle.proofs.drop_targets.Given as goal
+
+abbrev pub invariant-loop-c : goal.invariant-loop-c
+invariant-loop-c l = (1 ≤ l.c) × (l.c ≤ 13) × (length l.s ≡ STORE) × (view l.s ≡ dropped_to (view l.initial.s) l.p l.c)
+
+abbrev pub decreases-loop-c : goal.decreases-loop-c
+decreases-loop-c l = 13 - l.c

@@ -1,0 +1,14 @@
+use Rattle.lists.specs.Basics.{◌≡◌, sym, ◌∙◌, ◌-◌, ◌≤◌, arith, rules, not-true, not-false}
+use Rattle.lists.specs.Lists.{allb}
+use Rattle.protocol.specs.{Parts.every_chare, Restart.is_done}
+use Rattle.lists.specs.Counting.{counting}
+use Rattle.arrays.specs.Loops.{each, each_hit, each_miss, each_end, allb_keep}
+use Rattle.store.specs.View.{view}
+use Rattle.settle.specs.Done.{passes}
+use Rattle.settle.proofs.is_done.Given as goal
+
+abbrev pub invariant-loop-c : goal.invariant-loop-c
+invariant-loop-c l = (1 ≤ l.c) × (l.c ≤ 13) × (is_done (view l.s) l.p ≡ each (passes (view l.s) l.p) (13 - l.c) l.c)
+
+abbrev pub decreases-loop-c : goal.decreases-loop-c
+decreases-loop-c l = 13 - l.c

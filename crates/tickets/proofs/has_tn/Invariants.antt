@@ -1,0 +1,12 @@
+use Rattle.lists.specs.Basics.{drop, arith, ◌-◌, ◌≤◌, ◌≡◌, refl, sym, ap, ◌∙◌, eq-eqb, ne_eqb, rules}
+use Rattle.item.specs.Held.{held_next, held_miss, held_end}
+use Rattle.tickets.specs.Table.{entry_of, as_entry, entries}
+use Rattle.protocol.specs.Tickets.{has_tn}
+use Rattle.lists.specs.Lists.{anyb}
+use Rattle.tickets.proofs.has_tn.Given as goal
+
+abbrev pub invariant-loop-i : goal.invariant-loop-i
+invariant-loop-i l = (l.i ≤ l.n) × (anyb (has_tn l.tn) (entries l.ws) ≡ anyb (has_tn l.tn) (drop l.i (entries l.ws)))
+
+abbrev pub decreases-loop-i : goal.decreases-loop-i
+decreases-loop-i l = l.n - l.i

@@ -1,0 +1,11 @@
+use Rattle.lists.specs.Basics.{drop, arith, ◌-◌, ◌≤◌, ◌≡◌, refl, sym, ap, ◌∙◌, rules}
+use Rattle.item.specs.Held.{held_end}
+use Rattle.tickets.specs.{Table.{entry_of, entries}, Holes.highest_next}
+use Rattle.protocol.specs.Tickets.{highest}
+use Rattle.tickets.proofs.highest.Given as goal
+
+abbrev pub invariant-loop-i : goal.invariant-loop-i
+invariant-loop-i l = (l.i ≤ l.n) × (highest l.height (entries l.ws) ≡ highest l.h (drop l.i (entries l.ws)))
+
+abbrev pub decreases-loop-i : goal.decreases-loop-i
+decreases-loop-i l = l.n - l.i

@@ -1,0 +1,10 @@
+use Rattle.lists.specs.Basics.{◌≡◌, sym, ◌∙◌, ◌-◌, ◌≤◌, arith, rules, not-true, not-false}
+use Rattle.protocol.specs.Tickets.{lowest_hole, first_free}
+use Rattle.tickets.specs.{Table.{entries, found_hole}, Holes.{hole_start, hole_next, no_hole}}
+use Rattle.tickets.proofs.lowest_hole.Given as goal
+
+abbrev pub invariant-loop-n : goal.invariant-loop-n
+invariant-loop-n l = (l.n ≤ l.top) × (lowest_hole l.height l.top (entries l.ws) ≡ first_free (l.top - l.n) l.n (entries l.ws))
+
+abbrev pub decreases-loop-n : goal.decreases-loop-n
+decreases-loop-n l = l.top - l.n

@@ -1,0 +1,9 @@
+-- `take_back`: the desk's memory, then the wire.
+use Rattle.lists.specs.Basics.{arith, rules}
+use Rattle.withdraw.specs.Withdrawn.{taken_back}
+use Rattle.withdraw.proofs.take_back.Goals as goal
+
+pub returns : goal.returns
+returns c =
+    let a = c.args in
+    taken_back a.s.now c.requires.s_len a.c a.n c.forget.new.m (omega arith) c.forget.ensures c.leave_all.new.ws (omega arith) c.leave_all.ensures.row.items
