@@ -1,6 +1,6 @@
 -- `frames::digit` meets its contract: a range of characters after the other, and what stands in none of them.
-use Rattle.lists.specs.Basics.{⊎_elim, ◌∙◌, arith, rules, ltb-true, ltb-false}
-use Rattle.protocol.specs.{Frames.digit}
+use Rattle.lists.specs.Basics.{false, ◌⊎◌, inl, inr, ◌≡◌, ℕ, suc, ◌<◌, ◌≤◌, ◌∙◌, arith, ltb-true}
+use Rattle.protocol.specs.Frames.{digit, between}
 use Rattle.protocol.proofs.{Recovery.Frames.Job.true_between}
 use Rattle.frames.specs.{Codes.{or_no_digit, digit_code}, Range.{between_low, between_high}}
 use Rattle.frames.proofs.digit.Goals as goal
@@ -23,12 +23,12 @@ returns-then-x-lt103 c =
     let x = c.args.x in
     c.wide-then-x-lt103.ensures ∙ rw (between_high 48 57 x (omega arith), between_high 65 70 x (omega arith), true_between 97 102 x (omega arith) (omega (arith, ltb-true)))
 
+-- a character that is in no range
+outside : (a b x : ℕ) → (a < x × suc b ≤ x) ⊎ x ≤ a → between (suc a) b x ≡ false
+outside a b x o = elim o [ inl h ↦ between_high (suc a) b x (omega arith) | inr h ↦ between_low (suc a) b x (omega arith) ]
+
 pub returns : goal.returns
 unfolding digit_code or_no_digit digit
 returns c =
     let x = c.args.x in
-    rw (
-      ⊎_elim (λ h. between_high 48 57 x (ltb-false _ _ h.1.left)) (λ h. between_low 48 57 x (omega (arith, h.left))) c.else-x-gt47.branch,
-      ⊎_elim (λ h. between_high 65 70 x (ltb-false _ _ h.1.left)) (λ h. between_low 65 70 x (omega (arith, h.left))) c.else-x-gt64.branch,
-      ⊎_elim (λ h. between_high 97 102 x (ltb-false _ _ h.1.left)) (λ h. between_low 97 102 x (omega (arith, h.left))) c.else-x-gt96.branch,
-    )
+    rw (outside 47 57 x c.else-x-gt47.either, outside 64 70 x c.else-x-gt64.either, outside 96 102 x c.else-x-gt96.either)

@@ -1,16 +1,16 @@
 -- `frames::pair` meets its contract: the codes of two characters.
-use Rattle.lists.specs.Basics.{sym, ◌∙◌, rules}
+use Rattle.lists.specs.Basics.{sym, ◌∙◌, arith}
 use Rattle.frames.specs.{Codes.{digit_code, codes}, CodeLaws.code_small, DecodeLaws.get_or_pairs}
 use Rattle.frames.proofs.pair.Goals as goal
 
--- LEFT overflow-mul-result
--- mul-result c = let h = code_small _ _ c.before.before.digit.ensures in search needs
+pub overflow_mul-result : goal.overflow_mul-result
+overflow_mul-result c = let h = code_small _ _ c.digit-high.ensures in omega arith
 
--- LEFT overflow-add-result
--- add-result c =
---     let h = code_small _ _ c.before.before.digit.ensures in
---     let k = code_small _ _ c.digit2.ensures in
---     search needs
+pub overflow_add-result : goal.overflow_add-result
+overflow_add-result c =
+    let h = code_small _ _ c.digit-high.ensures in
+    let k = code_small _ _ c.digit-low.ensures in
+    omega arith
 
 pub returns : goal.returns
 unfolding codes

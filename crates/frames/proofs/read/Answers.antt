@@ -1,7 +1,7 @@
 -- `frames::read` meets its contract: the kind decides, then the length, then the digits behind the kind.
-use Rattle.lists.specs.Basics.{refl, ◌∙◌, rules}
+use Rattle.lists.specs.Basics.{refl, ◌∙◌, arith, length}
 use Rattle.protocol.specs.Frames.{least, least_length}
-use Rattle.frames.specs.{ReadLaws.{frame_short, frame_unknown, frame_job, frame_length, frame_behind}, TableLaws.least_small}
+use Rattle.frames.specs.{ReadLaws.{frame_short, frame_unknown, frame_job, frame_length, frame_behind}, TableLaws.least_small, Read.Sized}
 use Rattle.frames.proofs.read.Goals as goal
 
 pub returns-then-line-lt2 : goal.returns-then-line-lt2
@@ -15,8 +15,9 @@ unfolding least_length least
 returns-then-kind-eq1 c =
     c.job.ensures ∙ frame_job _ _ c.if-line-lt2.false c.pair-kind.ensures c.if-kind-gt23.false _ refl c.if-kind-eq1.true
 
--- LEFT overflow-mul-if4
--- mul-if4 c = let h = least_small _ _ c.before.before.if2.false c.wide.ensures in search needs
+pub overflow_mul-wide : goal.overflow_mul-wide
+unfolding least_length least
+overflow_mul-wide c = let h = least_small _ _ c.if-kind-gt23.false c.wide.ensures in omega arith
 
 pub returns-then-line-wide : goal.returns-then-line-wide
 unfolding least_length least
@@ -31,4 +32,5 @@ fields-requires c =
 pub returns : goal.returns
 unfolding least_length least
 returns c =
-    c.fields.ensures ∙ frame_behind _ _ c.if-line-lt2.false c.pair-kind.ensures (fields-requires c c.fields.lifetimes)
+    let sized : Sized (length c.args.line.now) c.pair-kind.result = record { some_pair = c.if-line-lt2.false; known = c.if-kind-gt23.false; other = c.if-kind-eq1.false; exact = c.if-line-wide.false ∙ rw c.wide.ensures } in
+    c.fields.ensures ∙ frame_behind _ _ c.if-line-lt2.false c.pair-kind.ensures sized

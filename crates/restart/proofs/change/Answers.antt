@@ -5,12 +5,6 @@ use Rattle.store.specs.ViewLaws.{status_set, wire_put}
 use Rattle.restart.specs.Whole.{back}
 use Rattle.restart.proofs.change.Goals as goal
 
--- LEFT slice-bounds-copy-over-end
--- part-copy-over-end c =
---     let a = c.before.before.before.before.before.before.before.args in
---     let e = length-set a.s.now (STATUS + a.p) 2 in
---     search needs
-
 pub shape_of-s : goal.shape_of-s
 shape_of-s c =
     let a = c.args in
@@ -24,4 +18,4 @@ returns c =
     let e = length-set a.s.now (STATUS + a.p) 2 in
     let b = c.all_back in
     rw c.copy_over.ensures
-    (wire_put b.new.0 (search rules) a.wire.now c.requires.4 ∙ rw (b.ensures, status_set a.s.now c.requires.0 2 a.p (omega arith)))
+    (wire_put b.new.s (search rules) a.wire.now c.requires.4 ∙ rw (b.ensures, status_set a.s.now c.requires.0 2 a.p (omega arith)))

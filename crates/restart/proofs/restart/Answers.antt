@@ -1,5 +1,5 @@
 -- `restart` refuses before the store is changed, or changes it.
-use Rattle.lists.specs.Basics.{not-true, not-false, arith, rules}
+use Rattle.lists.specs.Basics.{arith, rules}
 use Rattle.restart.specs.Whole.{refuse_first, machine, refuse_tables, refuse_wire, accept}
 use Rattle.restart.proofs.restart.Goals as goal
 
@@ -21,7 +21,7 @@ returns-then-not-tables c =
     let a = c.args in
     let j = c.judge-no in
     let t = c.tables in
-    refuse_tables a.s.now c.requires a.p j.result j.ensures c.if-no-ne0.false _ t.result t.ensures (not-true _ c.if-not-tables.true-raw)
+    refuse_tables a.s.now c.requires a.p j.result j.ensures c.if-no-ne0.false _ t.result t.ensures c.if-not-tables.true
 
 pub resend_all-requires : goal.resend_all-requires
 resend_all-requires c =
@@ -36,8 +36,8 @@ returns-then-not-resend_all c =
     let j = c.judge-no in
     let t = c.tables in
     let r = c.resend_all in
-    refuse_wire a.s.now c.requires a.p j.result j.ensures c.if-no-ne0.false _ t.result t.ensures (not-false _ c.if-not-tables.false)
-    _ _ _ r.result c.copy_over.ensures (search rules) c.after_restart.ensures.row.items r.ensures.0 (not-true _ c.if-not-resend_all.true-raw)
+    refuse_wire a.s.now c.requires a.p j.result j.ensures c.if-no-ne0.false _ t.result t.ensures c.if-not-tables.false
+    _ _ _ r.result c.copy_over.ensures (search rules) c.after_restart.ensures.row.items r.ensures.row c.if-not-resend_all.true
 
 pub change-requires : goal.change-requires
 change-requires c =
@@ -52,6 +52,6 @@ returns c =
     let j = c.judge-no in
     let t = c.tables in
     let r = c.resend_all in
-    accept a.s.now c.requires a.p j.result j.ensures c.if-no-ne0.false _ t.result t.ensures (not-false _ c.if-not-tables.false)
-    _ _ _ r.result c.copy_over.ensures (search rules) c.after_restart.ensures.row.items r.ensures.0 (not-false _ c.if-not-resend_all.false-raw)
+    accept a.s.now c.requires a.p j.result j.ensures c.if-no-ne0.false _ t.result t.ensures c.if-not-tables.false
+    _ _ _ r.result c.copy_over.ensures (search rules) c.after_restart.ensures.row.items r.ensures.row c.if-not-resend_all.false
     _ c.change.ensures

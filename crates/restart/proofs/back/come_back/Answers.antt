@@ -14,4 +14,4 @@ pub returns : goal.returns
 returns c =
     let a = c.args in
     let r = c.renew-t in
-    back_is a.s.now c.requires.0 a.c c.requires.1 (entries a.row.now) _ _ _ c.copy.ensures (omega arith) r.ensures.0 r.ensures.1
+    back_is a.s.now c.requires.0 a.c c.requires.1 (entries a.row.now) _ _ _ c.copy.ensures (omega arith) r.ensures.memory r.ensures.target

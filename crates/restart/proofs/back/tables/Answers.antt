@@ -1,5 +1,5 @@
 -- `tables` goes through the chares. The loop: the tables below n are built.
-use Rattle.lists.specs.Basics.{◌≡◌, ◌-◌, ◌≤◌, arith, not-true, not-false, length, rules}
+use Rattle.lists.specs.Basics.{◌≡◌, ◌-◌, ◌≤◌, arith, length, rules}
 use Rattle.store.specs.View.{view}
 use Rattle.restart.specs.{OnMachine.home_at, Homes.{ROWS, Going, going_start, going_end, going_skip, going_stop, going_more}}
 use Rattle.restart.proofs.back.tables.Goals as goal
@@ -14,7 +14,7 @@ returns-then-not-build c =
     let l = c.loop-n in
     let b = c.build in
     let here = home_at a.s.now a.p l.n _ _ c.on.ensures c.if-on.true in
-    going_stop (view a.s.now) a.p l.n l.rows l.invariant.3 (omega arith) here b.result _ b.ensures.0 (not-true _ c.if-not-build.true-raw) _
+    going_stop (view a.s.now) a.p l.n l.rows l.invariant.3 (omega arith) here b.result _ b.ensures.row c.if-not-build.true _
 
 pub loop-n-preserved-else-not-build : goal.loop-n-preserved-else-not-build
 loop-n-preserved-else-not-build c =
@@ -25,7 +25,7 @@ loop-n-preserved-else-not-build c =
       search rules,
       search rules,
       search rules,
-      going_more (view a.s.now) a.p l.n l.rows l.invariant.3 (omega arith) here b.result _ b.ensures.0 (not-false _ c.if-not-build.false-raw) l.invariant.2 (omega arith),
+      going_more (view a.s.now) a.p l.n l.rows l.invariant.3 (omega arith) here b.result _ b.ensures.row c.if-not-build.false l.invariant.2 (omega arith),
     )
 
 pub loop-n-preserved : goal.loop-n-preserved

@@ -1,4 +1,4 @@
-use Rattle.lists.specs.Basics.{◌≡◌, ◌-◌, ◌≤◌, arith, not-true, not-false, length, rules}
+use Rattle.lists.specs.Basics.{◌≡◌, ◌-◌, ◌≤◌, arith, length, rules}
 use Rattle.store.specs.View.{view}
 use Rattle.restart.specs.{OnMachine.home_at, Homes.{ROWS, Going, going_start, going_end, going_skip, going_stop, going_more}}
 use Rattle.restart.proofs.back.tables.Given as goal

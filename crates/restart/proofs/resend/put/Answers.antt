@@ -28,6 +28,6 @@ returns c =
     let n : length a.wire.now - 1 ≡ 128 = omega (arith, c.requires) in
     let room : length (packets a.wire.now) < 128 = omega arith in
     rw c.in-Send.is (record {
-      row = put_one (λ x. x) (fitted (about a.m _)) (packets a.wire.now) room _ (j.ensures.0.items ∙ rw n);
-      words = put_one packed (about a.m _) (items a.wire.now) (omega (arith, words_many a.wire.now)) _ (j.ensures.1 ∙ rw n);
+      row = put_one (λ x. x) (fitted (about a.m _)) (packets a.wire.now) room _ (j.ensures.row.items ∙ rw n);
+      words = put_one packed (about a.m _) (items a.wire.now) (omega (arith, words_many a.wire.now)) _ (j.ensures.words ∙ rw n);
     })

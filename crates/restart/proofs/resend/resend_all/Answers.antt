@@ -1,5 +1,5 @@
 -- `resend_all` goes through the logs. The loop: those from q on are still to be sent.
-use Rattle.lists.specs.Basics.{◌≡◌, refl, ◌-◌, ◌≤◌, arith, not-true, not-false, length, rules}
+use Rattle.lists.specs.Basics.{◌≡◌, refl, ◌-◌, ◌≤◌, arith, length, rules}
 use Rattle.lists.specs.Lists.{gather}
 use Rattle.protocol.specs.Parts.{every_chare, every_sender}
 use Rattle.item.specs.Item.{items}
@@ -18,8 +18,8 @@ returns-then-not-resend_from c =
     let l = c.loop-q in
     let f = c.resend_from in
     let e = range_next 13 l.q (omega arith) in record {
-      row = more_stop 128 one_more (all_again (view a.s.now) a.p) _ (packets l.wire) _ l.invariant.2 l.q _ e f.result _ f.ensures.0 (not-true _ c.if-not-resend_from.true-raw);
-      words = more_stop 128 word_more (all_again (view a.s.now) a.p) _ (items l.wire) _ l.invariant.3 l.q _ e f.result _ f.ensures.1 (not-true _ c.if-not-resend_from.true-raw);
+      row = more_stop 128 one_more (all_again (view a.s.now) a.p) _ (packets l.wire) _ l.invariant.2 l.q _ e f.result _ f.ensures.row c.if-not-resend_from.true;
+      words = more_stop 128 word_more (all_again (view a.s.now) a.p) _ (items l.wire) _ l.invariant.3 l.q _ e f.result _ f.ensures.words c.if-not-resend_from.true;
     }
 
 pub loop-q-preserved : goal.loop-q-preserved
@@ -30,8 +30,8 @@ loop-q-preserved c =
     let e = range_next 13 l.q (omega arith) in (
       search rules,
       search rules,
-      more_on 128 one_more (all_again (view a.s.now) a.p) _ (packets l.wire) _ l.invariant.2 l.q _ e f.result _ f.ensures.0 (not-false _ c.if-not-resend_from.false-raw),
-      more_on 128 word_more (all_again (view a.s.now) a.p) _ (items l.wire) _ l.invariant.3 l.q _ e f.result _ f.ensures.1 (not-false _ c.if-not-resend_from.false-raw),
+      more_on 128 one_more (all_again (view a.s.now) a.p) _ (packets l.wire) _ l.invariant.2 l.q _ e f.result _ f.ensures.row c.if-not-resend_from.false,
+      more_on 128 word_more (all_again (view a.s.now) a.p) _ (items l.wire) _ l.invariant.3 l.q _ e f.result _ f.ensures.words c.if-not-resend_from.false,
     )
 
 pub returns : goal.returns

@@ -1,4 +1,4 @@
-use Rattle.lists.specs.Basics.{◌≡◌, refl, ◌-◌, ◌≤◌, arith, not-true, not-false, length, rules}
+use Rattle.lists.specs.Basics.{◌≡◌, refl, ◌-◌, ◌≤◌, arith, length, rules}
 use Rattle.lists.specs.Lists.{gather}
 use Rattle.protocol.specs.Parts.{every_chare, every_sender}
 use Rattle.item.specs.Item.{items}

@@ -1,5 +1,5 @@
 -- `resend_log` goes through a log. The loop: the messages from i on are still to be sent.
-use Rattle.lists.specs.Basics.{◌≡◌, refl, ap, ◌∙◌, ◌-◌, ◌≤◌, arith, not-true, not-false, length, drop, drop_of_length-le, rules}
+use Rattle.lists.specs.Basics.{◌≡◌, refl, ap, ◌∙◌, ◌-◌, ◌≤◌, arith, length, drop, drop_of_length-le, rules}
 use Rattle.lists.specs.Lists.{gather}
 use Rattle.logs.specs.{Log.{logged_of, entries as messages}, Fits.at_fits}
 use Rattle.item.specs.Item.{items}
@@ -19,11 +19,11 @@ returns-then-not-put c =
     let o = c.resend-o in
     let f = c.put in
     let e = next (messages a.l.now) l.i x.result (logged_of 0) x.ensures (omega arith) in record {
-      row = more_stop 128 one_more (again (view a.s.now) a.p a.here) _ (packets l.wire) _ l.invariant.2 x.result _ e f.result (packets f.new.0)
-          (put_again x.result (rw x.ensures (at_fits a.l.now l.i)) (view a.s.now) a.p a.here o.result o.ensures (packets l.wire) _ f.ensures.0)
-          (not-true _ c.if-not-put.true-raw);
-      words = more_stop 128 word_more (again (view a.s.now) a.p a.here) _ (items l.wire) _ l.invariant.3 x.result _ e f.result (items f.new.0)
-          (f.ensures.1 ∙ ap (putting_words (items l.wire)) o.ensures) (not-true _ c.if-not-put.true-raw);
+      row = more_stop 128 one_more (again (view a.s.now) a.p a.here) _ (packets l.wire) _ l.invariant.2 x.result _ e f.result (packets f.new.wire)
+          (put_again x.result (rw x.ensures (at_fits a.l.now l.i)) (view a.s.now) a.p a.here o.result o.ensures (packets l.wire) _ f.ensures.row)
+          c.if-not-put.true;
+      words = more_stop 128 word_more (again (view a.s.now) a.p a.here) _ (items l.wire) _ l.invariant.3 x.result _ e f.result (items f.new.wire)
+          (f.ensures.words ∙ ap (putting_words (items l.wire)) o.ensures) c.if-not-put.true;
     }
 
 pub loop-i-preserved : goal.loop-i-preserved
@@ -36,11 +36,11 @@ loop-i-preserved c =
     let e = next (messages a.l.now) l.i x.result (logged_of 0) x.ensures (omega arith) in (
       search rules,
       search rules,
-      more_on 128 one_more (again (view a.s.now) a.p a.here) _ (packets l.wire) _ l.invariant.2 x.result _ e f.result (packets f.new.0)
-          (put_again x.result (rw x.ensures (at_fits a.l.now l.i)) (view a.s.now) a.p a.here o.result o.ensures (packets l.wire) _ f.ensures.0)
-          (not-false _ c.if-not-put.false-raw),
-      more_on 128 word_more (again (view a.s.now) a.p a.here) _ (items l.wire) _ l.invariant.3 x.result _ e f.result (items f.new.0)
-          (f.ensures.1 ∙ ap (putting_words (items l.wire)) o.ensures) (not-false _ c.if-not-put.false-raw),
+      more_on 128 one_more (again (view a.s.now) a.p a.here) _ (packets l.wire) _ l.invariant.2 x.result _ e f.result (packets f.new.wire)
+          (put_again x.result (rw x.ensures (at_fits a.l.now l.i)) (view a.s.now) a.p a.here o.result o.ensures (packets l.wire) _ f.ensures.row)
+          c.if-not-put.false,
+      more_on 128 word_more (again (view a.s.now) a.p a.here) _ (items l.wire) _ l.invariant.3 x.result _ e f.result (items f.new.wire)
+          (f.ensures.words ∙ ap (putting_words (items l.wire)) o.ensures) c.if-not-put.false,
     )
 
 pub returns : goal.returns

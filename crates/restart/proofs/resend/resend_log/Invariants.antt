@@ -1,4 +1,4 @@
-use Rattle.lists.specs.Basics.{◌≡◌, refl, ap, ◌∙◌, ◌-◌, ◌≤◌, arith, not-true, not-false, length, drop, drop_of_length-le, rules}
+use Rattle.lists.specs.Basics.{◌≡◌, refl, ap, ◌∙◌, ◌-◌, ◌≤◌, arith, length, drop, drop_of_length-le, rules}
 use Rattle.lists.specs.Lists.{gather}
 use Rattle.logs.specs.{Log.{logged_of, entries as messages}, Fits.at_fits}
 use Rattle.item.specs.Item.{items}

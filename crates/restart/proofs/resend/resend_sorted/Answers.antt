@@ -6,4 +6,4 @@ pub returns : goal.returns
 returns c =
     let r = c.resend_log in
     let e = c.copy_over.ensures in
-    record { row = r.ensures.0 ∙ rw (c.sort.ensures.row.items, e); words = r.ensures.1 ∙ rw (c.sort.ensures.row.items, e) }
+    record { row = r.ensures.row ∙ rw (c.sort.ensures.row.items, e); words = r.ensures.words ∙ rw (c.sort.ensures.row.items, e) }

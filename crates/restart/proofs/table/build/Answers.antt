@@ -1,5 +1,5 @@
 -- `build` is three walks, each from the table that the one before left, and the messages that fill.
-use Rattle.lists.specs.Basics.{not-true, not-false, length-set, rules}
+use Rattle.lists.specs.Basics.{length-set, rules}
 use Rattle.restart.specs.{Built.{build_stop, build_stop_2, build_stop_3, build_all}, Words.{packed_none, packed_words}}
 use Rattle.restart.proofs.table.build.Goals as goal
 
@@ -11,13 +11,13 @@ returns-then-not-from_copy c =
     let a = c.args in
     let f = c.from_copy in record {
       row = build_stop a.s.now a.p a.c c.requires.2 c.requires.3 _ c.height-h.ensures a.row.now c.requires.1
-          f.new.0 f.result f.ensures.0 (not-true _ c.if-not-from_copy.true-raw);
-      words = packed_words _ (f.ensures.1 (packed_none a.row.now c.requires.1));
+          f.new.row f.result f.ensures.row c.if-not-from_copy.true;
+      words = packed_words _ (f.ensures.words (packed_none a.row.now c.requires.1));
     }
 
 pub from_logs-requires : goal.from_logs-requires
 from_logs-requires c =
-    let a = c.args in let e = length-set a.row.now 0 0 in record { row_len = (search rules).0; s_len = (search rules).1 }
+    let a = c.args in let e = length-set a.row.now 0 0 in record { row_len = search rules; s_len = search rules }
 
 pub shape_of-row-then-not-from_logs : goal.shape_of-row-then-not-from_logs
 shape_of-row-then-not-from_logs c = let a = c.args in let e = length-set a.row.now 0 0 in search rules
@@ -28,9 +28,9 @@ returns-then-not-from_logs c =
     let f = c.from_copy in
     let g = c.from_logs in record {
       row = build_stop_2 a.s.now a.p a.c c.requires.2 c.requires.3 _ c.height-h.ensures a.row.now c.requires.1
-          f.new.0 f.result f.ensures.0 (not-false _ c.if-not-from_copy.false-raw)
-          g.new.0 g.result g.ensures.0 (not-true _ c.if-not-from_logs.true-raw);
-      words = packed_words _ (g.ensures.1 (f.ensures.1 (packed_none a.row.now c.requires.1)));
+          f.new.row f.result f.ensures.row c.if-not-from_copy.false
+          g.new.row g.result g.ensures.row c.if-not-from_logs.true;
+      words = packed_words _ (g.ensures.words (f.ensures.words (packed_none a.row.now c.requires.1)));
     }
 
 pub from_notes-requires : goal.from_notes-requires
@@ -46,10 +46,10 @@ returns-then-not-from_notes c =
     let g = c.from_logs in
     let n = c.from_notes in record {
       row = build_stop_3 a.s.now a.p a.c c.requires.2 c.requires.3 _ c.height-h.ensures a.row.now c.requires.1
-          f.new.0 f.result f.ensures.0 (not-false _ c.if-not-from_copy.false-raw)
-          g.new.0 g.result g.ensures.0 (not-false _ c.if-not-from_logs.false-raw)
-          n.new.0 n.result n.ensures.0 (not-true _ c.if-not-from_notes.true-raw);
-      words = packed_words _ (n.ensures.1 (g.ensures.1 (f.ensures.1 (packed_none a.row.now c.requires.1))));
+          f.new.row f.result f.ensures.row c.if-not-from_copy.false
+          g.new.row g.result g.ensures.row c.if-not-from_logs.false
+          n.new.row n.result n.ensures.row c.if-not-from_notes.true;
+      words = packed_words _ (n.ensures.words (g.ensures.words (f.ensures.words (packed_none a.row.now c.requires.1))));
     }
 
 pub shape_of-row : goal.shape_of-row
@@ -63,9 +63,9 @@ returns c =
     let n = c.from_notes in
     let z = c.fill_all in record {
       row = build_all a.s.now a.p a.c c.requires.2 c.requires.3 _ c.height-h.ensures a.row.now c.requires.1
-          f.new.0 f.result f.ensures.0 (not-false _ c.if-not-from_copy.false-raw)
-          g.new.0 g.result g.ensures.0 (not-false _ c.if-not-from_logs.false-raw)
-          n.new.0 n.result n.ensures.0 (not-false _ c.if-not-from_notes.false-raw)
-          z.new.0 z.ensures.0;
-      words = packed_words _ (z.ensures.1 (n.ensures.1 (g.ensures.1 (f.ensures.1 (packed_none a.row.now c.requires.1)))));
+          f.new.row f.result f.ensures.row c.if-not-from_copy.false
+          g.new.row g.result g.ensures.row c.if-not-from_logs.false
+          n.new.row n.result n.ensures.row c.if-not-from_notes.false
+          z.new.row z.ensures.row;
+      words = packed_words _ (z.ensures.words (n.ensures.words (g.ensures.words (f.ensures.words (packed_none a.row.now c.requires.1)))));
     }

@@ -22,8 +22,8 @@ loop-q-preserved-then-here c =
       search rules,
       search rules,
       search rules,
-      l.invariant.3 ∙ rw (range_next 13 l.q (omega arith), here, copy_log a.s.now l.q (omega arith), filling_append, f.ensures.0),
-      λ h. f.ensures.1 (l.invariant.4 h),
+      l.invariant.3 ∙ rw (range_next 13 l.q (omega arith), here, copy_log a.s.now l.q (omega arith), filling_append, f.ensures.row),
+      λ h. f.ensures.words (l.invariant.4 h),
     )
 
 pub loop-q-preserved : goal.loop-q-preserved

@@ -1,5 +1,5 @@
 -- `from_copy` enters the tickets of a copy. The loop: the entries from i on are still to be entered.
-use Rattle.lists.specs.Basics.{not-true, not-false, ◌≡◌, refl, ◌-◌, ◌≤◌, arith, length, drop, drop_of_length-le, rules}
+use Rattle.lists.specs.Basics.{◌≡◌, refl, ◌-◌, ◌≤◌, arith, length, drop, drop_of_length-le, rules}
 use Rattle.restart.specs.{Gather.next, Limited.{more_end, more_on, more_stop}, Tables.{entering, entering_one}, Sources.copied}
 use Rattle.restart.specs.Words.{AllPacked, packed_enter}
 use Rattle.lists.specs.Lists.{gather}
@@ -20,8 +20,8 @@ returns-then-not-enter_once c =
     let e = c.enter_once in record {
       row = more_stop 16 enter copied _ (entries l.row) _ l.invariant.2
           x.result _ (next (entries a.t.now) l.i x.result (entry_of 0) x.ensures (omega arith))
-          e.result (entries e.new.0)
-          (entering_one l.row e.new.0 x.result.sender _ _ e.result l.invariant.1 (rw (x.ensures, entry_at a.t.now l.i) (sender_small _)) e.ensures) (not-true _ c.if-not-enter_once.true-raw);
+          e.result (entries e.new.ws)
+          (entering_one l.row e.new.ws x.result.sender _ _ e.result l.invariant.1 (rw (x.ensures, entry_at a.t.now l.i) (sender_small _)) e.ensures) c.if-not-enter_once.true;
       words = λ h. packed_enter e.ensures (l.invariant.3 h);
     }
 
@@ -36,8 +36,8 @@ loop-i-preserved c =
       search rules,
       more_on 16 enter copied _ (entries l.row) _ l.invariant.2
           x.result _ (next (entries a.t.now) l.i x.result (entry_of 0) x.ensures (omega arith))
-          e.result (entries e.new.0)
-          (entering_one l.row e.new.0 x.result.sender _ _ e.result l.invariant.1 (rw (x.ensures, entry_at a.t.now l.i) (sender_small _)) e.ensures) (not-false _ c.if-not-enter_once.false-raw),
+          e.result (entries e.new.ws)
+          (entering_one l.row e.new.ws x.result.sender _ _ e.result l.invariant.1 (rw (x.ensures, entry_at a.t.now l.i) (sender_small _)) e.ensures) c.if-not-enter_once.false,
       λ h. packed_enter e.ensures (l.invariant.3 h),
     )
 

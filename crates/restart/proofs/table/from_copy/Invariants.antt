@@ -1,4 +1,4 @@
-use Rattle.lists.specs.Basics.{not-true, not-false, ◌≡◌, refl, ◌-◌, ◌≤◌, arith, length, drop, drop_of_length-le, rules}
+use Rattle.lists.specs.Basics.{◌≡◌, refl, ◌-◌, ◌≤◌, arith, length, drop, drop_of_length-le, rules}
 use Rattle.restart.specs.{Gather.next, Limited.{more_end, more_on, more_stop}, Tables.{entering, entering_one}, Sources.copied}
 use Rattle.restart.specs.Words.{AllPacked, packed_enter}
 use Rattle.lists.specs.Lists.{gather}

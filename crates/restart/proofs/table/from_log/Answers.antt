@@ -1,5 +1,5 @@
 -- `from_log` enters the tickets of a log. The loop: the messages from i on are still to be entered.
-use Rattle.lists.specs.Basics.{not-true, not-false, ◌≡◌, refl, sym, ◌∙◌, ◌-◌, ◌≤◌, arith, length, drop, drop_of_length-le, rules}
+use Rattle.lists.specs.Basics.{◌≡◌, refl, sym, ◌∙◌, ◌-◌, ◌≤◌, arith, length, drop, drop_of_length-le, rules}
 use Rattle.restart.specs.{Gather.{chosen, next}, Limited.{more_end, more_skip, more_on, more_stop}, Tables.{entering, entering_one}, Sources.logged}
 use Rattle.restart.specs.Words.{AllPacked, packed_enter}
 use Rattle.lists.specs.Lists.{gather}
@@ -21,8 +21,8 @@ returns-then-not-enter_once c =
     let e = c.enter_once in record {
       row = more_stop 16 enter (logged a.c a.h) _ (entries l.row) _ l.invariant.2
           x.result _ (next (messages a.l.now) l.i x.result (logged_of 0) x.ensures (omega arith))
-          e.result (entries e.new.0)
-          (rw (sym c.is_above.ensures ∙ c.if-is_above.true) (entering_one l.row e.new.0 x.result.message.sender _ _ e.result l.invariant.1 (rw x.ensures (at_fits a.l.now l.i).sender) e.ensures)) (not-true _ c.if-not-enter_once.true-raw);
+          e.result (entries e.new.ws)
+          (rw (sym c.is_above.ensures ∙ c.if-is_above.true) (entering_one l.row e.new.ws x.result.message.sender _ _ e.result l.invariant.1 (rw x.ensures (at_fits a.l.now l.i).sender) e.ensures)) c.if-not-enter_once.true;
       words = λ h. packed_enter e.ensures (l.invariant.3 h);
     }
 
@@ -37,8 +37,8 @@ loop-i-preserved-else-not-enter_once c =
       search rules,
       more_on 16 enter (logged a.c a.h) _ (entries l.row) _ l.invariant.2
           x.result _ (next (messages a.l.now) l.i x.result (logged_of 0) x.ensures (omega arith))
-          e.result (entries e.new.0)
-          (rw (sym c.is_above.ensures ∙ c.if-is_above.true) (entering_one l.row e.new.0 x.result.message.sender _ _ e.result l.invariant.1 (rw x.ensures (at_fits a.l.now l.i).sender) e.ensures)) (not-false _ c.if-not-enter_once.false-raw),
+          e.result (entries e.new.ws)
+          (rw (sym c.is_above.ensures ∙ c.if-is_above.true) (entering_one l.row e.new.ws x.result.message.sender _ _ e.result l.invariant.1 (rw x.ensures (at_fits a.l.now l.i).sender) e.ensures)) c.if-not-enter_once.false,
       λ h. packed_enter e.ensures (l.invariant.3 h),
     )
 

@@ -1,5 +1,5 @@
 -- `from_logs` goes through the logs. The loop: those from q on are still to be entered.
-use Rattle.lists.specs.Basics.{◌≡◌, refl, ◌-◌, ◌≤◌, arith, not-true, not-false, length, rules}
+use Rattle.lists.specs.Basics.{◌≡◌, refl, ◌-◌, ◌≤◌, arith, length, rules}
 use Rattle.restart.specs.Words.{AllPacked}
 use Rattle.lists.specs.Lists.{gather}
 use Rattle.protocol.specs.{Parts.{every_chare, every_sender}, Restart.{enter, other_log}}
@@ -20,12 +20,12 @@ returns-then-not-from_log c =
     let a = c.args in
     let l = c.loop-q in
     let f = c.from_log in
-    let there = home_at a.s.now a.p l.q _ _ c.on-here.ensures (not-true _ c.if-not-here.true-raw) in record {
+    let there = home_at a.s.now a.p l.q _ _ c.on-here.ensures c.if-not-here.true in record {
       row = more_stop 16 enter (sender_tickets (view a.s.now) a.p a.c a.h) _ (entries l.row) _ l.invariant.2
-          l.q _ (range_next 13 l.q (omega arith)) f.result (entries f.new.0)
-          (rw (there, live_log a.s.now l.q (omega arith)) f.ensures.0)
-          (not-true _ c.if-not-from_log.true-raw);
-      words = λ h. f.ensures.1 (l.invariant.3 h);
+          l.q _ (range_next 13 l.q (omega arith)) f.result (entries f.new.row)
+          (rw (there, live_log a.s.now l.q (omega arith)) f.ensures.row)
+          c.if-not-from_log.true;
+      words = λ h. f.ensures.words (l.invariant.3 h);
     }
 
 pub loop-q-preserved-else-not-from_log : goal.loop-q-preserved-else-not-from_log
@@ -34,14 +34,14 @@ loop-q-preserved-else-not-from_log c =
     let a = c.args in
     let l = c.loop-q in
     let f = c.from_log in
-    let there = home_at a.s.now a.p l.q _ _ c.on-here.ensures (not-true _ c.if-not-here.true-raw) in (
+    let there = home_at a.s.now a.p l.q _ _ c.on-here.ensures c.if-not-here.true in (
       search rules,
       search rules,
       more_on 16 enter (sender_tickets (view a.s.now) a.p a.c a.h) _ (entries l.row) _ l.invariant.2
-          l.q _ (range_next 13 l.q (omega arith)) f.result (entries f.new.0)
-          (rw (there, live_log a.s.now l.q (omega arith)) f.ensures.0)
-          (not-false _ c.if-not-from_log.false-raw),
-      λ h. f.ensures.1 (l.invariant.3 h),
+          l.q _ (range_next 13 l.q (omega arith)) f.result (entries f.new.row)
+          (rw (there, live_log a.s.now l.q (omega arith)) f.ensures.row)
+          c.if-not-from_log.false,
+      λ h. f.ensures.words (l.invariant.3 h),
     )
 
 pub loop-q-preserved : goal.loop-q-preserved
@@ -49,7 +49,7 @@ unfolding sender_tickets other_log gather
 loop-q-preserved c =
     let a = c.args in
     let l = c.loop-q in
-    let here = home_at a.s.now a.p l.q _ _ c.on-here.ensures (not-false _ c.if-not-here.false-raw) in (
+    let here = home_at a.s.now a.p l.q _ _ c.on-here.ensures c.if-not-here.false in (
       search rules,
       search rules,
       more_skip 16 enter (sender_tickets (view a.s.now) a.p a.c a.h) _ (entries l.row) _ l.invariant.2

@@ -1,5 +1,5 @@
 -- `from_notes` enters the notes. The loop: those from i on are still to be entered.
-use Rattle.lists.specs.Basics.{not-true, not-false, ◌≡◌, refl, ◌-◌, ◌≤◌, arith, eq-eqb, ne_eqb, lt-ltb, le-ltb, length, drop, drop_of_length-le, rules}
+use Rattle.lists.specs.Basics.{◌≡◌, refl, ◌-◌, ◌≤◌, arith, eq-eqb, ne_eqb, lt-ltb, le-ltb, length, drop, drop_of_length-le, rules}
 use Rattle.restart.specs.{Gather.{chosen, next}, Limited.{more_end, more_skip, more_on, more_stop}, Tables.{entering, entering_one}, Sources.noted}
 use Rattle.restart.specs.Words.{AllPacked, packed_enter}
 use Rattle.lists.specs.Lists.{gather}
@@ -21,9 +21,9 @@ returns-then-not-enter_once c =
     let e = c.enter_once in record {
       row = more_stop 16 enter (noted a.c a.h) _ (entries l.row) _ l.invariant.2
           x.result _ (next (notes a.w.now) l.i x.result (note_of 0) x.ensures (omega arith))
-          e.result (entries e.new.0)
+          e.result (entries e.new.ws)
           (rw (eq-eqb x.result.receiver a.c (search rules), lt-ltb a.h x.result.tn (search rules))
-          (entering_one l.row e.new.0 x.result.sender _ _ e.result l.invariant.1 (rw x.ensures (at_fits a.w.now l.i).sender) e.ensures)) (not-true _ c.if-not-enter_once.true-raw);
+          (entering_one l.row e.new.ws x.result.sender _ _ e.result l.invariant.1 (rw x.ensures (at_fits a.w.now l.i).sender) e.ensures)) c.if-not-enter_once.true;
       words = λ h. packed_enter e.ensures (l.invariant.3 h);
     }
 
@@ -38,9 +38,9 @@ loop-i-preserved-else-not-enter_once c =
       search rules,
       more_on 16 enter (noted a.c a.h) _ (entries l.row) _ l.invariant.2
           x.result _ (next (notes a.w.now) l.i x.result (note_of 0) x.ensures (omega arith))
-          e.result (entries e.new.0)
+          e.result (entries e.new.ws)
           (rw (eq-eqb x.result.receiver a.c (search rules), lt-ltb a.h x.result.tn (search rules))
-          (entering_one l.row e.new.0 x.result.sender _ _ e.result l.invariant.1 (rw x.ensures (at_fits a.w.now l.i).sender) e.ensures)) (not-false _ c.if-not-enter_once.false-raw),
+          (entering_one l.row e.new.ws x.result.sender _ _ e.result l.invariant.1 (rw x.ensures (at_fits a.w.now l.i).sender) e.ensures)) c.if-not-enter_once.false,
       λ h. packed_enter e.ensures (l.invariant.3 h),
     )
 

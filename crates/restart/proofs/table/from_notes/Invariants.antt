@@ -1,4 +1,4 @@
-use Rattle.lists.specs.Basics.{not-true, not-false, ◌≡◌, refl, ◌-◌, ◌≤◌, arith, eq-eqb, ne_eqb, lt-ltb, le-ltb, length, drop, drop_of_length-le, rules}
+use Rattle.lists.specs.Basics.{◌≡◌, refl, ◌-◌, ◌≤◌, arith, eq-eqb, ne_eqb, lt-ltb, le-ltb, length, drop, drop_of_length-le, rules}
 use Rattle.restart.specs.{Gather.{chosen, next}, Limited.{more_end, more_skip, more_on, more_stop}, Tables.{entering, entering_one}, Sources.noted}
 use Rattle.restart.specs.Words.{AllPacked, packed_enter}
 use Rattle.lists.specs.Lists.{gather}
