@@ -1,5 +1,4 @@
 -- `is_down` meets its contract: status by status.
-use Rattle.lists.specs.Basics.{rules}
 use Rattle.store.specs.View.{view}
 use Rattle.protocol.specs.Parts.{is_down}
 use Rattle.restart.proofs.is_down.Goals as goal

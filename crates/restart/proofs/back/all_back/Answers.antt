@@ -1,7 +1,7 @@
 -- `all_back` goes through the chares. The loop: those below n are back.
-use Rattle.lists.specs.Basics.{◌≡◌, ◌∙◌, ◌-◌, ◌≤◌, arith, length, rules}
-use Rattle.store.specs.{Places.STORE, View.view}
-use Rattle.restart.specs.{OnMachine.{home_at, on_last}, Homes.{backs, backs_start, backs_more, backs_skip, backs_all}}
+use Rattle.lists.specs.Basics.{◌∙◌, arith, rules}
+use Rattle.store.specs.{View.view}
+use Rattle.restart.specs.{OnMachine.{home_at, on_last}, Homes.{backs_start, backs_more, backs_skip, backs_all}}
 use Rattle.restart.proofs.back.all_back.Goals as goal
 
 pub loop-n-init : goal.loop-n-init

@@ -1,6 +1,6 @@
-use Rattle.lists.specs.Basics.{◌≡◌, ◌∙◌, ◌-◌, ◌≤◌, arith, length, rules}
+use Rattle.lists.specs.Basics.{◌≡◌, ◌-◌, ◌≤◌, length}
 use Rattle.store.specs.{Places.STORE, View.view}
-use Rattle.restart.specs.{OnMachine.{home_at, on_last}, Homes.{backs, backs_start, backs_more, backs_skip, backs_all}}
+use Rattle.restart.specs.{Homes.{backs}}
 use Rattle.restart.proofs.back.all_back.Given as goal
 
 abbrev pub invariant-loop-n : goal.invariant-loop-n

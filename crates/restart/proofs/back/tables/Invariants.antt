@@ -1,6 +1,6 @@
-use Rattle.lists.specs.Basics.{◌≡◌, ◌-◌, ◌≤◌, arith, length, rules}
+use Rattle.lists.specs.Basics.{◌≡◌, ◌-◌, ◌≤◌, length}
 use Rattle.store.specs.View.{view}
-use Rattle.restart.specs.{OnMachine.home_at, Homes.{ROWS, Going, going_start, going_end, going_skip, going_stop, going_more}}
+use Rattle.restart.specs.{Homes.{ROWS, Going}}
 use Rattle.restart.proofs.back.tables.Given as goal
 
 abbrev pub invariant-loop-n : goal.invariant-loop-n

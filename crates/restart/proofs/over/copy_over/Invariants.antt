@@ -1,4 +1,4 @@
-use Rattle.lists.specs.Basics.{◌≡◌, refl, sym, ◌∙◌, ◌-◌, ◌≤◌, arith, add-one, length, take, length-set, take-suc, take-suc-set, take_all, rules}
+use Rattle.lists.specs.Basics.{◌≡◌, ◌-◌, ◌≤◌, length, take}
 use Rattle.restart.proofs.over.copy_over.Given as goal
 
 abbrev pub invariant-loop-i : goal.invariant-loop-i

@@ -1,5 +1,5 @@
 -- `put` joins the wire where there is room.
-use Rattle.lists.specs.Basics.{◌≡◌, refl, ◌∙◌, ◌-◌, ◌<◌, ◌≤◌, length, arith, rules}
+use Rattle.lists.specs.Basics.{◌≡◌, refl, ◌∙◌, ◌-◌, ◌<◌, ◌≤◌, length, arith}
 use Rattle.protocol.specs.Sending.{about}
 use Rattle.item.specs.Item.{items}
 use Rattle.packets.specs.{Words.{fitted, packets}, Packing.packed}

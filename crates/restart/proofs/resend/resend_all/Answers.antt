@@ -1,11 +1,10 @@
 -- `resend_all` goes through the logs. The loop: those from q on are still to be sent.
-use Rattle.lists.specs.Basics.{◌≡◌, refl, ◌-◌, ◌≤◌, arith, length, rules}
-use Rattle.lists.specs.Lists.{gather}
+use Rattle.lists.specs.Basics.{refl, arith, rules}
 use Rattle.protocol.specs.Parts.{every_chare, every_sender}
 use Rattle.item.specs.Item.{items}
 use Rattle.packets.specs.Words.{packets}
-use Rattle.store.specs.{Places.PACKETS, View.view}
-use Rattle.restart.specs.{Ranges.{count_from, range, range_next, range_past}, Limited.{more_end, more_on, more_stop}, Resends.all_again, Sent.{one_more, putting, word_more, putting_words}}
+use Rattle.store.specs.{View.view}
+use Rattle.restart.specs.{Ranges.{count_from, range, range_next, range_past}, Limited.{more_end, more_on, more_stop}, Resends.all_again, Sent.{one_more, word_more}}
 use Rattle.restart.proofs.resend.resend_all.Goals as goal
 
 pub loop-q-init : goal.loop-q-init

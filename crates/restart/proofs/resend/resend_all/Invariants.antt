@@ -1,10 +1,10 @@
-use Rattle.lists.specs.Basics.{◌≡◌, refl, ◌-◌, ◌≤◌, arith, length, rules}
+use Rattle.lists.specs.Basics.{◌≡◌, ◌-◌, ◌≤◌, length}
 use Rattle.lists.specs.Lists.{gather}
-use Rattle.protocol.specs.Parts.{every_chare, every_sender}
+use Rattle.protocol.specs.Parts.{every_sender}
 use Rattle.item.specs.Item.{items}
 use Rattle.packets.specs.Words.{packets}
 use Rattle.store.specs.{Places.PACKETS, View.view}
-use Rattle.restart.specs.{Ranges.{count_from, range, range_next, range_past}, Limited.{more_end, more_on, more_stop}, Resends.all_again, Sent.{one_more, putting, word_more, putting_words}}
+use Rattle.restart.specs.{Ranges.{range}, Resends.all_again, Sent.{putting, putting_words}}
 use Rattle.restart.proofs.resend.resend_all.Given as goal
 
 abbrev pub invariant-loop-q : goal.invariant-loop-q

@@ -1,5 +1,4 @@
 -- `resend_from` takes the log of the copy, or the live one.
-use Rattle.lists.specs.Basics.{rules}
 use Rattle.restart.specs.{Stored.{live_log, copy_log}, OnMachine.home_at, Resends.{log_back, all_again}}
 use Rattle.restart.proofs.resend.resend_from.Goals as goal
 

@@ -1,11 +1,10 @@
 -- `resend_log` goes through a log. The loop: the messages from i on are still to be sent.
-use Rattle.lists.specs.Basics.{◌≡◌, refl, ap, ◌∙◌, ◌-◌, ◌≤◌, arith, length, drop, drop_of_length-le, rules}
-use Rattle.lists.specs.Lists.{gather}
+use Rattle.lists.specs.Basics.{refl, ap, ◌∙◌, arith, drop_of_length-le, rules}
 use Rattle.logs.specs.{Log.{logged_of, entries as messages}, Fits.at_fits}
 use Rattle.item.specs.Item.{items}
 use Rattle.packets.specs.Words.{packets}
-use Rattle.store.specs.{Places.PACKETS, View.view}
-use Rattle.restart.specs.{Limited.{more_end, more_on, more_stop}, Gather.next, Resends.again, Sent.{one_more, putting, word_more, putting_words, put_again}}
+use Rattle.store.specs.{View.view}
+use Rattle.restart.specs.{Limited.{more_end, more_on, more_stop}, Gather.next, Resends.again, Sent.{one_more, word_more, putting_words, put_again}}
 use Rattle.restart.proofs.resend.resend_log.Goals as goal
 
 pub loop-i-init : goal.loop-i-init

@@ -1,10 +1,10 @@
-use Rattle.lists.specs.Basics.{◌≡◌, refl, ap, ◌∙◌, ◌-◌, ◌≤◌, arith, length, drop, drop_of_length-le, rules}
+use Rattle.lists.specs.Basics.{◌≡◌, ◌-◌, ◌≤◌, length, drop}
 use Rattle.lists.specs.Lists.{gather}
-use Rattle.logs.specs.{Log.{logged_of, entries as messages}, Fits.at_fits}
+use Rattle.logs.specs.{Log.{entries as messages}}
 use Rattle.item.specs.Item.{items}
 use Rattle.packets.specs.Words.{packets}
 use Rattle.store.specs.{Places.PACKETS, View.view}
-use Rattle.restart.specs.{Limited.{more_end, more_on, more_stop}, Gather.next, Resends.again, Sent.{one_more, putting, word_more, putting_words, put_again}}
+use Rattle.restart.specs.{Resends.again, Sent.{putting, putting_words}}
 use Rattle.restart.proofs.resend.resend_log.Given as goal
 
 abbrev pub invariant-loop-i : goal.invariant-loop-i

@@ -1,10 +1,10 @@
-use Rattle.lists.specs.Basics.{◌≡◌, refl, sym, ◌∙◌, ◌-◌, ◌≤◌, arith, length, rules}
+use Rattle.lists.specs.Basics.{◌≡◌, ◌-◌, ◌≤◌, length}
 use Rattle.restart.specs.Words.{AllPacked}
-use Rattle.lists.specs.Lists.{keep, gather}
-use Rattle.protocol.specs.{Parts.every_chare, Restart.{fill_all, local_log}}
+use Rattle.lists.specs.Lists.{gather}
+use Rattle.protocol.specs.{Parts.every_chare, Restart.{local_log}}
 use Rattle.tickets.specs.Table.{entries}
 use Rattle.store.specs.View.{view}
-use Rattle.restart.specs.{Fills.{filling, filling_append}, Ranges.{count_from, range, range_next, range_past}, Stored.copy_log, OnMachine.home_at}
+use Rattle.restart.specs.{Fills.{filling}, Ranges.{range}}
 use Rattle.restart.proofs.table.fill_all.Given as goal
 
 abbrev pub invariant-loop-q : goal.invariant-loop-q

@@ -1,10 +1,9 @@
 -- `fill_from` fills from a log. The loop: the messages from i on still fill.
-use Rattle.lists.specs.Basics.{◌≡◌, refl, sym, ◌∙◌, ◌-◌, ◌≤◌, ◌<◌, arith, mod-eq_of_lt, length, drop, drop_of_length-le, rules}
+use Rattle.lists.specs.Basics.{refl, sym, ◌∙◌, ◌<◌, arith, mod-eq_of_lt, drop_of_length-le, rules}
 use Rattle.restart.specs.{Gather.next, Fills.filling}
-use Rattle.restart.specs.Words.{AllPacked, packed_change}
+use Rattle.restart.specs.Words.{packed_change}
 use Rattle.lists.specs.Lists.{keep}
 use Rattle.protocol.specs.{Tickets.fill, Restart.fill_all}
-use Rattle.tickets.specs.Table.{entries}
 use Rattle.logs.specs.{Log.{entries as messages, logged_of}, Fits.at_fits}
 use Rattle.restart.proofs.table.fill_from.Goals as goal
 

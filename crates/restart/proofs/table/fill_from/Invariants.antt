@@ -1,10 +1,8 @@
-use Rattle.lists.specs.Basics.{◌≡◌, refl, sym, ◌∙◌, ◌-◌, ◌≤◌, ◌<◌, arith, mod-eq_of_lt, length, drop, drop_of_length-le, rules}
-use Rattle.restart.specs.{Gather.next, Fills.filling}
-use Rattle.restart.specs.Words.{AllPacked, packed_change}
-use Rattle.lists.specs.Lists.{keep}
-use Rattle.protocol.specs.{Tickets.fill, Restart.fill_all}
+use Rattle.lists.specs.Basics.{◌≡◌, ◌-◌, ◌≤◌, length, drop}
+use Rattle.restart.specs.{Fills.filling}
+use Rattle.restart.specs.Words.{AllPacked}
 use Rattle.tickets.specs.Table.{entries}
-use Rattle.logs.specs.{Log.{entries as messages, logged_of}, Fits.at_fits}
+use Rattle.logs.specs.{Log.{entries as messages}}
 use Rattle.restart.proofs.table.fill_from.Given as goal
 
 abbrev pub invariant-loop-i : goal.invariant-loop-i

@@ -1,11 +1,9 @@
 -- `from_copy` enters the tickets of a copy. The loop: the entries from i on are still to be entered.
-use Rattle.lists.specs.Basics.{◌≡◌, refl, ◌-◌, ◌≤◌, arith, length, drop, drop_of_length-le, rules}
-use Rattle.restart.specs.{Gather.next, Limited.{more_end, more_on, more_stop}, Tables.{entering, entering_one}, Sources.copied}
-use Rattle.restart.specs.Words.{AllPacked, packed_enter}
-use Rattle.lists.specs.Lists.{gather}
+use Rattle.lists.specs.Basics.{refl, arith, drop_of_length-le, rules}
+use Rattle.restart.specs.{Gather.next, Limited.{more_end, more_on, more_stop}, Tables.{entering_one}, Sources.copied}
+use Rattle.restart.specs.Words.{packed_enter}
 use Rattle.protocol.specs.Restart.{enter, ticket_of_entry}
 use Rattle.tickets.specs.{Table.{entries, entry_of}, EntryLaws.sender_small, Fits.entry_at}
-use Rattle.memory.specs.Places.{ROW}
 use Rattle.restart.proofs.table.from_copy.Goals as goal
 
 pub loop-i-init : goal.loop-i-init

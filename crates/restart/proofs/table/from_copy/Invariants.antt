@@ -1,9 +1,8 @@
-use Rattle.lists.specs.Basics.{◌≡◌, refl, ◌-◌, ◌≤◌, arith, length, drop, drop_of_length-le, rules}
-use Rattle.restart.specs.{Gather.next, Limited.{more_end, more_on, more_stop}, Tables.{entering, entering_one}, Sources.copied}
-use Rattle.restart.specs.Words.{AllPacked, packed_enter}
+use Rattle.lists.specs.Basics.{◌≡◌, ◌-◌, ◌≤◌, length, drop}
+use Rattle.restart.specs.{Tables.{entering}, Sources.copied}
+use Rattle.restart.specs.Words.{AllPacked}
 use Rattle.lists.specs.Lists.{gather}
-use Rattle.protocol.specs.Restart.{enter, ticket_of_entry}
-use Rattle.tickets.specs.{Table.{entries, entry_of}, EntryLaws.sender_small, Fits.entry_at}
+use Rattle.tickets.specs.{Table.{entries}}
 use Rattle.memory.specs.Places.{ROW}
 use Rattle.restart.proofs.table.from_copy.Given as goal
 

@@ -1,11 +1,10 @@
-use Rattle.lists.specs.Basics.{◌≡◌, refl, sym, ◌∙◌, ◌-◌, ◌≤◌, arith, length, drop, drop_of_length-le, rules}
-use Rattle.restart.specs.{Gather.{chosen, next}, Limited.{more_end, more_skip, more_on, more_stop}, Tables.{entering, entering_one}, Sources.logged}
-use Rattle.restart.specs.Words.{AllPacked, packed_enter}
+use Rattle.lists.specs.Basics.{◌≡◌, ◌-◌, ◌≤◌, length, drop}
+use Rattle.restart.specs.{Tables.{entering}, Sources.logged}
+use Rattle.restart.specs.Words.{AllPacked}
 use Rattle.lists.specs.Lists.{gather}
-use Rattle.protocol.specs.Restart.{enter, ticket_of_logged}
 use Rattle.tickets.specs.Table.{entries}
 use Rattle.memory.specs.Places.{ROW}
-use Rattle.logs.specs.{Log.{entries as messages, logged_of}, Fits.at_fits}
+use Rattle.logs.specs.{Log.{entries as messages}}
 use Rattle.restart.proofs.table.from_log.Given as goal
 
 abbrev pub invariant-loop-i : goal.invariant-loop-i

@@ -1,12 +1,10 @@
 -- `from_logs` goes through the logs. The loop: those from q on are still to be entered.
-use Rattle.lists.specs.Basics.{◌≡◌, refl, ◌-◌, ◌≤◌, arith, length, rules}
-use Rattle.restart.specs.Words.{AllPacked}
+use Rattle.lists.specs.Basics.{refl, arith, rules}
 use Rattle.lists.specs.Lists.{gather}
 use Rattle.protocol.specs.{Parts.{every_chare, every_sender}, Restart.{enter, other_log}}
 use Rattle.tickets.specs.Table.{entries}
-use Rattle.memory.specs.Places.{ROW}
 use Rattle.store.specs.View.{view}
-use Rattle.restart.specs.{Limited.{more_end, more_skip, more_on, more_stop}, Tables.entering, Ranges.{count_from, range, range_next, range_past}}
+use Rattle.restart.specs.{Limited.{more_end, more_skip, more_on, more_stop}, Ranges.{count_from, range, range_next, range_past}}
 use Rattle.restart.specs.{Sources.sender_tickets, Stored.live_log, OnMachine.home_at}
 use Rattle.restart.proofs.table.from_logs.Goals as goal
 

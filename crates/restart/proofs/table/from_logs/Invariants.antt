@@ -1,12 +1,12 @@
-use Rattle.lists.specs.Basics.{◌≡◌, refl, ◌-◌, ◌≤◌, arith, length, rules}
+use Rattle.lists.specs.Basics.{◌≡◌, ◌-◌, ◌≤◌, length}
 use Rattle.restart.specs.Words.{AllPacked}
 use Rattle.lists.specs.Lists.{gather}
-use Rattle.protocol.specs.{Parts.{every_chare, every_sender}, Restart.{enter, other_log}}
+use Rattle.protocol.specs.{Parts.{every_sender}}
 use Rattle.tickets.specs.Table.{entries}
 use Rattle.memory.specs.Places.{ROW}
 use Rattle.store.specs.View.{view}
-use Rattle.restart.specs.{Limited.{more_end, more_skip, more_on, more_stop}, Tables.entering, Ranges.{count_from, range, range_next, range_past}}
-use Rattle.restart.specs.{Sources.sender_tickets, Stored.live_log, OnMachine.home_at}
+use Rattle.restart.specs.{Tables.entering, Ranges.{range}}
+use Rattle.restart.specs.{Sources.sender_tickets}
 use Rattle.restart.proofs.table.from_logs.Given as goal
 
 abbrev pub invariant-loop-q : goal.invariant-loop-q

@@ -1,11 +1,10 @@
-use Rattle.lists.specs.Basics.{◌≡◌, refl, ◌-◌, ◌≤◌, arith, eq-eqb, ne_eqb, lt-ltb, le-ltb, length, drop, drop_of_length-le, rules}
-use Rattle.restart.specs.{Gather.{chosen, next}, Limited.{more_end, more_skip, more_on, more_stop}, Tables.{entering, entering_one}, Sources.noted}
-use Rattle.restart.specs.Words.{AllPacked, packed_enter}
+use Rattle.lists.specs.Basics.{◌≡◌, ◌-◌, ◌≤◌, length, drop}
+use Rattle.restart.specs.{Tables.{entering}, Sources.noted}
+use Rattle.restart.specs.Words.{AllPacked}
 use Rattle.lists.specs.Lists.{gather}
-use Rattle.protocol.specs.Restart.{enter, ticket_of_note, is_note_above}
 use Rattle.tickets.specs.Table.{entries}
 use Rattle.memory.specs.Places.{ROW}
-use Rattle.notelist.specs.{Notes.{notes, note_of}, Fits.at_fits}
+use Rattle.notelist.specs.{Notes.{notes}}
 use Rattle.restart.proofs.table.from_notes.Given as goal
 
 abbrev pub invariant-loop-i : goal.invariant-loop-i
