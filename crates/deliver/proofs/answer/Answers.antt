@@ -26,4 +26,4 @@ pub returns-in_default : goal.returns-in_default
 unfolding answered answered_words
 returns-in_default c =
     let l = c.leave.ensures in
-    rw c.in_default.is (record { left = _; off = l.0; on = becomes_same packets _ l.0.items; words = gone _ _ _ l.1 })
+    rw c.in_default.is (record { left = _; off = l.row; on = becomes_same packets _ l.row.items; words = gone _ _ _ l.words })

@@ -3,8 +3,9 @@ use Rattle.protocol.specs.Restart.{below_hole}
 use Rattle.tickets.specs.{Table.found_hole, Holes.hole_above}
 use Rattle.tickets.proofs.target.Goals as goal
 
--- LEFT overflow-sub-result
--- sub-result c = omega (arith, hole_above _ _ _ (sym (ap found_hole c.before.n.given.1) ∙ c.before.before.before.lowest_hole.ensures))
+pub overflow_sub-result : goal.overflow_sub-result
+unfolding found_hole
+overflow_sub-result c = omega (arith, hole_above _ _ _ (sym (ap found_hole c.in-At.is) ∙ c.lowest_hole.ensures))
 
 pub returns-in-At : goal.returns-in-At
 unfolding found_hole below_hole

@@ -1,5 +1,5 @@
 -- `ask`: an entry found, the SN worked, a refusal, or a new ticket.
-use Rattle.lists.specs.Basics.{none, ◌≡◌, refl, sym, ap, ◌∙◌, false, ◌-◌, ◌<◌, arith, mod-eq_of_lt, lt-leb, le-leb, lt-ltb, le-ltb, rules, not-true, not-false, length}
+use Rattle.lists.specs.Basics.{none, ◌≡◌, refl, sym, ap, ◌∙◌, false, ◌-◌, ◌<◌, arith, mod-eq_of_lt, lt-leb, le-leb, lt-ltb, le-ltb, rules, length}
 use Rattle.lists.specs.Questions.{ok, put_all}
 use Rattle.arrays.specs.Front.{push}
 use Rattle.protocol.specs.{Parts.{Memory, number_limit, table_room}, Packets.is_worked, Window.worked}
@@ -21,46 +21,60 @@ returns-in-At c =
 pub returns-then-worked : goal.returns-then-worked
 unfolding effect_of reply_of ask_questions ask_effect put_all is_worked found_entry
 returns-then-worked c =
-    replying c.args.m.now _ _ _ c.accepted-then-worked.ensures (rw (
-      (let a = c.args in
-          ap (λ l. entry l a.sender a.sn) (table_part a.m.now) ∙ sym c.find.ensures ∙ ap found_entry c.in_default.is),
-      sym ((c.worked.ensures ∙ ap worked c.seen-seen.ensures)) ∙ c.if-worked.true,
-    ))
+    let a = c.args in
+    let found = ap (λ l. entry l a.sender a.sn) (table_part a.m.now) ∙ sym c.find.ensures ∙ ap found_entry c.in_default.is in
+    let was = sym (c.worked.ensures ∙ ap worked c.seen-seen.ensures) ∙ c.if-worked.true in
+    replying a.m.now _ _ _ c.accepted-then-worked.ensures (rw (found, was))
 
 pub returns-then-tn-gt60000 : goal.returns-then-tn-gt60000
-unfolding put_all found_entry new_tn
+unfolding put_all found_entry new_tn is_worked
 returns-then-tn-gt60000 c =
-    refusing c.args.m.now _ _ 7 (omega arith) c.refused.ensures
-    (ask_new _ _ _ ((c.next_tn-tn.ensures ∙ (λ i. next_tn (c.height-h.ensures i) (c.top-t.ensures i) (sym (table_part c.args.m.now) i)))) refl ((let a = c.args in
-    ap (λ l. entry l a.sender a.sn) (table_part a.m.now) ∙ sym c.find.ensures ∙ ap found_entry c.in_default.is)) ((sym ((c.worked.ensures ∙ ap worked c.seen-seen.ensures)) ∙ c.if-worked.false)) (lt-leb c.next_tn-tn.result number_limit (omega arith)) refl refl) refl
+    let a = c.args in
+    let v = memory_view a.m.now in
+    let next = c.next_tn-tn.ensures ∙ (λ i. next_tn (c.height-h.ensures i) (c.top-t.ensures i) (sym (table_part a.m.now) i)) in
+    let found = ap (λ l. entry l a.sender a.sn) (table_part a.m.now) ∙ sym c.find.ensures ∙ ap found_entry c.in_default.is in
+    let new = sym (c.worked.ensures ∙ ap worked c.seen-seen.ensures) ∙ c.if-worked.false in
+    refusing a.m.now _ _ 7 (omega arith) c.refused.ensures
+    (ask_new v a.sender a.sn next refl found new (lt-leb c.next_tn-tn.result number_limit (omega arith)) refl refl) refl
 
 pub returns-then-not-admitted : goal.returns-then-not-admitted
-unfolding put_all found_entry new_tn
+unfolding put_all found_entry new_tn is_worked
 returns-then-not-admitted c =
-    refusing c.args.m.now _ _ 8 (omega arith) c.refused-then-not-admitted.ensures
-    (ask_new _ _ _ ((c.next_tn-tn.ensures ∙ (λ i. next_tn (c.height-h.ensures i) (c.top-t.ensures i) (sym (table_part c.args.m.now) i)))) c.seen-seen.ensures ((let a = c.args in
-    ap (λ l. entry l a.sender a.sn) (table_part a.m.now) ∙ sym c.find.ensures ∙ ap found_entry c.in_default.is)) ((sym ((c.worked.ensures ∙ ap worked c.seen-seen.ensures)) ∙ c.if-worked.false))
-    (le-leb c.next_tn-tn.result number_limit (omega arith)) (sym c.admitted.ensures ∙ not-true _ c.if-not-admitted.true-raw) refl) refl
+    let a = c.args in
+    let v = memory_view a.m.now in
+    let next = c.next_tn-tn.ensures ∙ (λ i. next_tn (c.height-h.ensures i) (c.top-t.ensures i) (sym (table_part a.m.now) i)) in
+    let found = ap (λ l. entry l a.sender a.sn) (table_part a.m.now) ∙ sym c.find.ensures ∙ ap found_entry c.in_default.is in
+    let new = sym (c.worked.ensures ∙ ap worked c.seen-seen.ensures) ∙ c.if-worked.false in
+    refusing a.m.now _ _ 8 (omega arith) c.refused-then-not-admitted.ensures
+    (ask_new v a.sender a.sn next c.seen-seen.ensures found new
+    (le-leb c.next_tn-tn.result number_limit (omega arith)) (sym c.admitted.ensures ∙ c.if-not-admitted.true) refl) refl
 
 pub returns-then-count-ge16 : goal.returns-then-count-ge16
-unfolding put_all found_entry new_tn
+unfolding put_all found_entry new_tn is_worked
 returns-then-count-ge16 c =
     let a = c.args in
+    let v = memory_view a.m.now in
+    let next = c.next_tn-tn.ensures ∙ (λ i. next_tn (c.height-h.ensures i) (c.top-t.ensures i) (sym (table_part a.m.now) i)) in
+    let found = ap (λ l. entry l a.sender a.sn) (table_part a.m.now) ∙ sym c.find.ensures ∙ ap found_entry c.in_default.is in
+    let new = sym (c.worked.ensures ∙ ap worked c.seen-seen.ensures) ∙ c.if-worked.false in
     refusing a.m.now _ _ 10 (omega arith) c.refused-then-count-ge16.ensures
-    (ask_new _ _ _ ((c.next_tn-tn.ensures ∙ (λ i. next_tn (c.height-h.ensures i) (c.top-t.ensures i) (sym (table_part c.args.m.now) i)))) c.seen-seen.ensures ((let a = c.args in
-    ap (λ l. entry l a.sender a.sn) (table_part a.m.now) ∙ sym c.find.ensures ∙ ap found_entry c.in_default.is)) ((sym ((c.worked.ensures ∙ ap worked c.seen-seen.ensures)) ∙ c.if-worked.false))
-    (le-leb c.next_tn-tn.result number_limit (omega arith)) (sym c.admitted.ensures ∙ not-false _ c.if-not-admitted.false) (le-ltb (length (memory_view a.m.now).table) table_room (rw table_part (omega (arith, c.count.ensures))))) refl
+    (ask_new v a.sender a.sn next c.seen-seen.ensures found new
+    (le-leb c.next_tn-tn.result number_limit (omega arith)) (sym c.admitted.ensures ∙ c.if-not-admitted.false)
+    (le-ltb (length v.table) table_room (rw table_part (omega (arith, c.count.ensures))))) refl
 
 pub returns : goal.returns
-unfolding effect_of reply_of put_all found_entry new_tn
+unfolding effect_of reply_of put_all found_entry new_tn is_worked
 returns c =
     let a = c.args in
+    let v = memory_view a.m.now in
     let size = c.requires.m_len in
     let z : length (part TABLE ROW a.m.now) - 1 ≡ 16 = omega (arith, part_length TABLE ROW a.m.now (omega (arith, size))) in
-    let room : length (memory_view a.m.now).table < table_room = rw table_part (omega (arith, c.count.ensures)) in
+    let room : length v.table < table_room = rw table_part (omega (arith, c.count.ensures)) in
+    let next = c.next_tn-tn.ensures ∙ (λ i. next_tn (c.height-h.ensures i) (c.top-t.ensures i) (sym (table_part a.m.now) i)) in
+    let found = ap (λ l. entry l a.sender a.sn) (table_part a.m.now) ∙ sym c.find.ensures ∙ ap found_entry c.in_default.is in
+    let new = sym (c.worked.ensures ∙ ap worked c.seen-seen.ensures) ∙ c.if-worked.false in
     replying a.m.now _ _ _ c.accepted-2.ensures
     (ap (λ m. ok (answering AskNew m (GRANT-new c.next_tn-tn.result))) (table_changed a.m.now c.enter.new.ws size (omega arith) (λ l. push 16 l (unreceived a.sender a.sn c.next_tn-tn.result)) (rw (z, mod-eq_of_lt c.requires.sender_bound) at c.enter.ensures.row.items))
-    ∙ ap ok (entered _ _ _ ((c.next_tn-tn.ensures ∙ (λ i. next_tn (c.height-h.ensures i) (c.top-t.ensures i) (sym (table_part c.args.m.now) i)))) room)
-    ∙ ask_new _ _ _ ((c.next_tn-tn.ensures ∙ (λ i. next_tn (c.height-h.ensures i) (c.top-t.ensures i) (sym (table_part c.args.m.now) i)))) c.seen-seen.ensures ((let a = c.args in
-    ap (λ l. entry l a.sender a.sn) (table_part a.m.now) ∙ sym c.find.ensures ∙ ap found_entry c.in_default.is)) ((sym ((c.worked.ensures ∙ ap worked c.seen-seen.ensures)) ∙ c.if-worked.false))
-    (le-leb c.next_tn-tn.result number_limit (omega arith)) (sym c.admitted.ensures ∙ not-false _ c.if-not-admitted.false) (lt-ltb _ table_room room))
+    ∙ ap ok (entered v a.sender a.sn next room)
+    ∙ ask_new v a.sender a.sn next c.seen-seen.ensures found new
+    (le-leb c.next_tn-tn.result number_limit (omega arith)) (sym c.admitted.ensures ∙ c.if-not-admitted.false) (lt-ltb _ table_room room))

@@ -4,12 +4,12 @@ use Rattle.lists.specs.Lists.{remove1}
 use Rattle.protocol.specs.{Packets.for_receiver, declared.Rule.TheVariants.GrantOld}
 use Rattle.memory.specs.View.{log_part, log_changed}
 use Rattle.deliver.specs.{Effect.{quiet, unticketed, grant_old_effect}, View.{effect_of, reply_of}}
-use Rattle.deliver.proofs.Tags.{no_unticketed}
+use Rattle.deliver.proofs.Variants.{no_unticketed}
 use Rattle.deliver.proofs.arrive.grant_old.Goals as goal
 
 pub returns-in_default : goal.returns-in_default
 unfolding effect_of reply_of grant_old_effect
-returns-in_default c = rw (log_part, ← c.lookup.ensures) (no_unticketed _ _ _ c.in_default.in_default-own.keys2)
+returns-in_default c = rw (log_part, ← c.lookup.ensures) (no_unticketed _ _ _ c.in_default.not-Unticketed)
 
 pub returns : goal.returns
 unfolding unticketed effect_of reply_of grant_old_effect

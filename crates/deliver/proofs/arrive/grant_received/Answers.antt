@@ -3,12 +3,12 @@ use Rattle.lists.specs.Basics.{◌∙◌, ap, arith, rules}
 use Rattle.protocol.specs.{Packets.ticketed, declared.Rule.TheVariants.GrantReceived}
 use Rattle.memory.specs.View.{log_part, log_changed}
 use Rattle.deliver.specs.{Effect.{quiet, unticketed, grant_received_effect}, View.{effect_of, reply_of}}
-use Rattle.deliver.proofs.Tags.{no_unticketed}
+use Rattle.deliver.proofs.Variants.{no_unticketed}
 use Rattle.deliver.proofs.arrive.grant_received.Goals as goal
 
 pub returns-in_default : goal.returns-in_default
 unfolding effect_of reply_of grant_received_effect
-returns-in_default c = rw (log_part, ← c.lookup.ensures) (no_unticketed _ _ _ c.in_default.in_default-own.keys2)
+returns-in_default c = rw (log_part, ← c.lookup.ensures) (no_unticketed _ _ _ c.in_default.not-Unticketed)
 
 pub returns : goal.returns
 unfolding unticketed effect_of reply_of grant_received_effect

@@ -7,9 +7,6 @@ pub returns-then-ones-lt64 : goal.returns-then-ones-lt64
 unfolding window_bits
 returns-then-ones-lt64 c = let a = c.args in run_stops a.w.low a.w.high (search rules) c.if-ones-lt64.true
 
--- LEFT overflow-add-result
--- add-result c = let w = c.before.before.before.args.w in search (needs, word_run_top w.low, word_run_top w.high)
-
 pub returns : goal.returns
 unfolding window_bits
 returns c = let a = c.args in run_goes_on a.w.low a.w.high (search rules) (search rules) c.if-ones-lt64.false
