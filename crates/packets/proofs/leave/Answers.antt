@@ -7,4 +7,8 @@ use Rattle.packets.proofs.leave.Goals as goal
 pub returns : goal.returns
 unfolding packets
 returns c =
-    let r = c.remove.ensures in record { row = becomes_mapped unpacked r (map_without unpacked _ (row _)); words = r.items }
+    let r = c.remove.ensures in
+    record {
+      row = becomes_mapped unpacked r (map_without unpacked _ (row _));
+      words = r.items;
+    }

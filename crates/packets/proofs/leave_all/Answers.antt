@@ -5,4 +5,8 @@ use Rattle.packets.proofs.leave_all.Goals as goal
 
 pub returns : goal.returns
 unfolding is_kept
-returns c = record { row = c.sift.ensures.row; words = c.sift.ensures.words }
+returns c =
+    record {
+      row = c.sift.ensures.row;
+      words = c.sift.ensures.words;
+    }
