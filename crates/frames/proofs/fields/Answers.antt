@@ -1,5 +1,5 @@
 -- `frames::fields` meets its contract: the table tells the length of each kind.
-use Rattle.lists.specs.Basics.{◌∙◌}
+use Rattle.lists.specs.Basics.{◌∙◌, arith}
 use Rattle.protocol.specs.Frames.{least, least_length}
 use Rattle.frames.specs.TableLaws.{single_line}
 use Rattle.frames.proofs.fields.Goals as goal
@@ -14,7 +14,8 @@ deliver-requires c = c.requires.exact ∙ rw c.in-17.is
 
 pub single-requires : goal.single-requires
 single-requires c =
-    record { line_len = (single_line _ _ c.requires c.in_default.in_default-own.rest.0.1 c.in_default.in_default-own.rest.1).0; lt_kind = (single_line _ _ c.requires c.in_default.in_default-own.rest.0.1 c.in_default.in_default-own.rest.1).1 }
+    let l = single_line _ _ c.requires (λ h. omega arith) (λ h. omega arith) in
+    record { line_len = l.0; lt_kind = l.1 }
 
 pub returns-in-16 : goal.returns-in-16
 returns-in-16 c = c.inject.ensures ∙ rw c.in-16.is

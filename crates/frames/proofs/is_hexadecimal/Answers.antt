@@ -1,7 +1,7 @@
 -- `frames::is_hexadecimal` meets its contract: the loop has passed only digits, so the answer is that for the rest.
-use Rattle.lists.specs.Basics.{◌≡◌, sym, ◌∙◌, ◌≤◌, ◌-◌, arith, rules, eq-eqb, ne_eqb, add-one, length, drop, drop-cons, drop_of_length-le}
+use Rattle.lists.specs.Basics.{sym, ◌∙◌, arith, rules, eq-eqb, ne_eqb, add-one, drop-cons, drop_of_length-le}
 use Rattle.lists.specs.Lists.{allb}
-use Rattle.frames.specs.{Decode.{is_digit, is_hexadecimal}, CodeLaws.{digit_true, digit_false}}
+use Rattle.frames.specs.{Decode.{is_hexadecimal}, CodeLaws.{digit_true, digit_false}}
 use Rattle.frames.proofs.is_hexadecimal.Goals as goal
 
 pub returns-then-line-ne0 : goal.returns-then-line-ne0

@@ -1,6 +1,6 @@
-use Rattle.lists.specs.Basics.{◌≡◌, sym, ◌∙◌, ◌≤◌, ◌-◌, arith, rules, eq-eqb, ne_eqb, add-one, length, drop, drop-cons, drop_of_length-le}
+use Rattle.lists.specs.Basics.{◌≡◌, ◌≤◌, ◌-◌, length, drop}
 use Rattle.lists.specs.Lists.{allb}
-use Rattle.frames.specs.{Decode.{is_digit, is_hexadecimal}, CodeLaws.{digit_true, digit_false}}
+use Rattle.frames.specs.{Decode.{is_digit, is_hexadecimal}}
 use Rattle.frames.proofs.is_hexadecimal.Given as goal
 
 abbrev pub invariant-loop-i : goal.invariant-loop-i

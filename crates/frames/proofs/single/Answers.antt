@@ -1,5 +1,5 @@
 -- `frames::single` meets its contract: one code judged, and each kind at its number.
-use Rattle.lists.specs.Basics.{arith, rules, ne_eqb}
+use Rattle.lists.specs.Basics.{arith, ne_eqb}
 use Rattle.protocol.specs.Frames.{parts}
 use Rattle.frames.specs.{CodeLaws.coded_at, KindLaws.{sum_of, behind_none, behind_parts}, Read.read_as}
 use Rattle.frames.proofs.single.Goals as goal
@@ -48,16 +48,15 @@ pub returns-in_default : goal.returns-in_default
 unfolding parts read_as sum_of
 returns-in_default c =
     let k = c.args.kind in
-    let r = c.in_default.in_default-own.rest in
     rw (
       behind_parts c.args.line.now k 1 _ c.requires.line_len c.if-x-ge-NO_DIGIT.false (omega (arith, c.pair-x.ensures)),
       ne_eqb k 0x01 (λ h. omega (arith, c.requires.lt_kind)),
       ne_eqb k 0x10 (λ h. omega (arith, c.requires.lt_kind)),
       ne_eqb k 0x11 (λ h. omega (arith, c.requires.lt_kind)),
-      ne_eqb _ _ r.0.0.0.0.0.1,
-      ne_eqb _ _ r.0.0.0.0.1,
-      ne_eqb _ _ r.0.0.0.1,
-      ne_eqb _ _ r.0.0.1,
-      ne_eqb _ _ r.0.1,
-      ne_eqb _ _ r.1,
+      ne_eqb k 0x12 (λ h. omega arith),
+      ne_eqb k 0x13 (λ h. omega arith),
+      ne_eqb k 0x14 (λ h. omega arith),
+      ne_eqb k 0x15 (λ h. omega arith),
+      ne_eqb k 0x16 (λ h. omega arith),
+      ne_eqb k 0x17 (λ h. omega arith),
     )

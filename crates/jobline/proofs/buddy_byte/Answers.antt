@@ -1,5 +1,4 @@
 -- `jobline::buddy_byte` meets its contract: the byte at its place.
-use Rattle.lists.specs.Basics.{rules}
 use Rattle.protocol.specs.Job.{buddy_byte}
 use Rattle.jobline.proofs.buddy_byte.Goals as goal
 

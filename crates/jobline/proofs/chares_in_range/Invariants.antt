@@ -1,10 +1,7 @@
-use Rattle.lists.specs.Basics.{◌≡◌, sym, ◌∙◌, ◌≤◌, ◌-◌, arith, rules, not-true, not-false}
-use Rattle.lists.specs.Lists.{allb}
-use Rattle.protocol.specs.Parts.{every_chare}
+use Rattle.lists.specs.Basics.{◌≡◌, ◌≤◌, ◌-◌}
 use Rattle.frames.specs.Decode.{decoded}
 use Rattle.jobline.specs.Passes.{chares_in_range, chare_passes}
-use Rattle.lists.specs.Counting.{counting}
-use Rattle.arrays.specs.Loops.{each, each_hit, each_miss, each_end, allb_keep}
+use Rattle.arrays.specs.Loops.{each}
 use Rattle.jobline.proofs.chares_in_range.Given as goal
 
 abbrev pub invariant-loop-c : goal.invariant-loop-c

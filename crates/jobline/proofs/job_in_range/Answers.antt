@@ -1,5 +1,5 @@
 -- `jobline::job_in_range` meets its contract: test by test.
-use Rattle.lists.specs.Basics.{sym, ◌∙◌, rules, not-true, not-false, le-leb, lt-leb}
+use Rattle.lists.specs.Basics.{sym, ◌∙◌, le-leb, lt-leb}
 use Rattle.protocol.specs.{Frames.between, Job.{machines_of, chares_of, job_in_range}}
 use Rattle.jobline.specs.Passes.{buddies_in_range, chares_in_range}
 use Rattle.jobline.proofs.job_in_range.Goals as goal
@@ -26,12 +26,12 @@ returns-then-c-gt12 c =
 pub returns-then-not-buddies_in_range : goal.returns-then-not-buddies_in_range
 unfolding job_in_range buddies_in_range between machines_of chares_of
 returns-then-not-buddies_in_range c =
-    rw (sym c.buddies_in_range.ensures ∙ not-true _ c.if-not-buddies_in_range.true-raw, ← c.byte-m.ensures, le-leb _ _ c.if-m-lt2.false, le-leb _ _ c.if-m-gt6.false)
+    rw (sym c.buddies_in_range.ensures ∙ c.if-not-buddies_in_range.true, ← c.byte-m.ensures, le-leb _ _ c.if-m-lt2.false, le-leb _ _ c.if-m-gt6.false)
     (rw (← c.byte-c.ensures, le-leb _ _ c.if-c-lt1.false, le-leb _ _ c.if-c-gt12.false))
 
 pub returns : goal.returns
 unfolding job_in_range buddies_in_range chares_in_range between machines_of chares_of
 returns c =
     c.chares_in_range.ensures
-    ∙ rw (sym c.buddies_in_range.ensures ∙ not-false _ c.if-not-buddies_in_range.false-raw, ← c.byte-m.ensures, le-leb _ _ c.if-m-lt2.false, le-leb _ _ c.if-m-gt6.false)
+    ∙ rw (sym c.buddies_in_range.ensures ∙ c.if-not-buddies_in_range.false, ← c.byte-m.ensures, le-leb _ _ c.if-m-lt2.false, le-leb _ _ c.if-m-gt6.false)
     (rw (← c.byte-c.ensures, le-leb _ _ c.if-c-lt1.false, le-leb _ _ c.if-c-gt12.false))

@@ -1,5 +1,5 @@
 -- `opening::begin` meets its contract: zeros, the head over them, the chares' states.
-use Rattle.lists.specs.Basics.{◌∙◌, arith, rules}
+use Rattle.lists.specs.Basics.{◌∙◌, arith}
 use Rattle.protocol.specs.Job.{chares_of}
 use Rattle.jobline.specs.JobLaws.{in_range}
 use Rattle.store.specs.ViewLaws.{head_length}
@@ -10,7 +10,7 @@ pub start_chares-requires : goal.start_chares-requires
 unfolding chares_of
 start_chares-requires c =
     let r = in_range _ c.requires.line_value in
-    (head_length c.clear.new.ws (c.clear.auto.0 ∙ c.requires.s_len) c.write_head.new.h c.write_head.ensures.size, omega (arith, r.chares, c.byte.ensures))
+    (head_length c.clear.new.ws (c.clear.auto.ws ∙ c.requires.s_len) c.write_head.new.h c.write_head.ensures.size, omega (arith, r.chares, c.byte.ensures))
 
 pub returns : goal.returns
 returns c =

@@ -1,5 +1,5 @@
 -- `opening::job` meets its contract: refused at the first "no", or begun.
-use Rattle.lists.specs.Basics.{sym, ◌∙◌, rules, not-true, not-false}
+use Rattle.lists.specs.Basics.{sym, ◌∙◌, rules}
 use Rattle.lists.specs.Questions.{put_all}
 use Rattle.protocol.specs.{Questions.job_questions, Step.judged}
 use Rattle.store.specs.{View.{view, tried, outcome}, Framing.{refuses, accepts}}
@@ -12,20 +12,20 @@ returns-then-is_set c = refuses _ 2 (rw (sym c.is_set.ensures ∙ c.if-is_set.tr
 pub returns-then-not-job_in_range : goal.returns-then-not-job_in_range
 unfolding tried judged put_all job_questions view
 returns-then-not-job_in_range c =
-    refuses _ 3 (rw (sym c.is_set.ensures ∙ c.if-is_set.false, sym c.job_in_range.ensures ∙ not-true _ c.if-not-job_in_range.true-raw))
+    refuses _ 3 (rw (sym c.is_set.ensures ∙ c.if-is_set.false, sym c.job_in_range.ensures ∙ c.if-not-job_in_range.true))
 
 pub returns-then-is_lost : goal.returns-then-is_lost
 unfolding tried judged put_all job_questions view
 returns-then-is_lost c =
     refuses _ 4
-    (rw (sym c.is_set.ensures ∙ c.if-is_set.false, sym c.job_in_range.ensures ∙ not-false _ c.if-not-job_in_range.false, sym c.is_lost.ensures ∙ c.if-is_lost.true))
+    (rw (sym c.is_set.ensures ∙ c.if-is_set.false, sym c.job_in_range.ensures ∙ c.if-not-job_in_range.false, sym c.is_lost.ensures ∙ c.if-is_lost.true))
 
 pub begin-requires : goal.begin-requires
 begin-requires c =
-    record { s_len = search rules; line_value = sym c.job_in_range.ensures ∙ not-false _ c.if-not-job_in_range.false }
+    record { s_len = search rules; line_value = sym c.job_in_range.ensures ∙ c.if-not-job_in_range.false }
 
 pub returns : goal.returns
 unfolding tried judged put_all job_questions outcome view
 returns c =
     accepts _ _
-    (rw (sym c.is_set.ensures ∙ c.if-is_set.false, sym c.job_in_range.ensures ∙ not-false _ c.if-not-job_in_range.false, sym c.is_lost.ensures ∙ c.if-is_lost.false, c.begin.ensures))
+    (rw (sym c.is_set.ensures ∙ c.if-is_set.false, sym c.job_in_range.ensures ∙ c.if-not-job_in_range.false, sym c.is_lost.ensures ∙ c.if-is_lost.false, c.begin.ensures))

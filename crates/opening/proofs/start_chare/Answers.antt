@@ -1,8 +1,7 @@
 -- `opening::start_chare` meets its contract: the memory, then its copy.
-use Rattle.lists.specs.Basics.{rules}
 use Rattle.opening.specs.States.{both_started}
 use Rattle.opening.proofs.start_chare.Goals as goal
 
 pub returns : goal.returns
 returns c =
-    both_started _ c.requires.0 _ c.requires.1 _ _ c.write_state.auto.0 c.write_state-2.auto.0 c.write_state.ensures c.write_state-2.ensures
+    both_started _ c.requires.0 _ c.requires.1 _ _ c.write_state.auto.m c.write_state-2.auto.m c.write_state.ensures c.write_state-2.ensures

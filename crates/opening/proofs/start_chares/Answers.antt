@@ -1,7 +1,6 @@
 -- `opening::start_chares` meets its contract: those before c have started.
-use Rattle.lists.specs.Basics.{◌≡◌, ap, ◌∙◌, ◌+◌, ◌-◌, ◌≤◌, arith, rules, length}
-use Rattle.store.specs.{Places.STORE, View.view}
-use Rattle.opening.specs.States.{started, below, below_start, below_more, below_end}
+use Rattle.lists.specs.Basics.{ap, ◌∙◌, arith, rules}
+use Rattle.opening.specs.States.{started, below_start, below_more, below_end}
 use Rattle.opening.proofs.start_chares.Goals as goal
 
 pub loop-c-init : goal.loop-c-init

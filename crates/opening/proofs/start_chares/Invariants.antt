@@ -1,6 +1,6 @@
-use Rattle.lists.specs.Basics.{◌≡◌, ap, ◌∙◌, ◌+◌, ◌-◌, ◌≤◌, arith, rules, length}
+use Rattle.lists.specs.Basics.{◌≡◌, ◌+◌, ◌-◌, ◌≤◌, length}
 use Rattle.store.specs.{Places.STORE, View.view}
-use Rattle.opening.specs.States.{started, below, below_start, below_more, below_end}
+use Rattle.opening.specs.States.{below}
 use Rattle.opening.proofs.start_chares.Given as goal
 
 abbrev pub invariant-loop-c : goal.invariant-loop-c

@@ -1,12 +1,12 @@
 -- `opening::write_head` meets its contract: the numbers, then five parts.
-use Rattle.lists.specs.Basics.{◌∙◌, rules}
+use Rattle.lists.specs.Basics.{◌∙◌}
 use Rattle.opening.specs.Words.{head_written}
 use Rattle.opening.proofs.write_head.Goals as goal
 
 pub returns : goal.returns
 returns c =
     head_written _ _ _ _ _ _ _
-    (c.write_at-5.auto.0 ∙ c.write_at-4.auto.0 ∙ c.write_at-3.auto.0 ∙ c.write_at-2.auto.0 ∙ c.write_at.auto.0 ∙ c.write_numbers.auto.0 ∙ c.requires)
+    (c.write_at-5.auto.h ∙ c.write_at-4.auto.h ∙ c.write_at-3.auto.h ∙ c.write_at-2.auto.h ∙ c.write_at.auto.h ∙ c.write_numbers.auto.h ∙ c.requires)
     c.write_numbers.ensures
     c.write_at.ensures
     c.write_at-2.ensures

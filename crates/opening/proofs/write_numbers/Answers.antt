@@ -1,10 +1,10 @@
 -- `opening::write_numbers` meets its contract: three words over zeros.
-use Rattle.lists.specs.Basics.{arith, rules, length-set}
+use Rattle.lists.specs.Basics.{arith, length-set}
 use Rattle.opening.specs.Words.{numbered}
 use Rattle.opening.proofs.write_numbers.Goals as goal
 
 pub bounds-h-3 : goal.bounds-h-3
-bounds-h-3 c = simp length-set (omega (arith, c.clear.auto.0, c.requires))
+bounds-h-3 c = simp length-set (omega (arith, c.clear.auto.ws, c.requires))
 
 pub returns : goal.returns
 unfolding numbered

@@ -1,8 +1,6 @@
 -- `opening::write_part` meets its contract: k words are written.
-use Rattle.lists.specs.Basics.{◌≡◌, refl, ◌-◌, ◌≤◌, arith, rules, length, length-set}
-use Rattle.frames.specs.Decode.{decoded}
+use Rattle.lists.specs.Basics.{refl, arith, rules, length-set}
 use Rattle.head.specs.Cells.{Filled, fill_more, fill_end}
-use Rattle.opening.specs.Words.{word_of}
 use Rattle.opening.proofs.write_part.Goals as goal
 
 pub loop-k-init : goal.loop-k-init

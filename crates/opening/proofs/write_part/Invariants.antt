@@ -1,6 +1,6 @@
-use Rattle.lists.specs.Basics.{◌≡◌, refl, ◌-◌, ◌≤◌, arith, rules, length, length-set}
+use Rattle.lists.specs.Basics.{◌≡◌, ◌-◌, ◌≤◌, length}
 use Rattle.frames.specs.Decode.{decoded}
-use Rattle.head.specs.Cells.{Filled, fill_more, fill_end}
+use Rattle.head.specs.Cells.{Filled}
 use Rattle.opening.specs.Words.{word_of}
 use Rattle.opening.proofs.write_part.Given as goal
 

@@ -1,4 +1,3 @@
-use Rattle.lists.specs.Basics.{rules}
 use Rattle.sends.specs.Made.{none_sent, one_said, one_made}
 use Rattle.sends.proofs.send_one.Goals as goal
 

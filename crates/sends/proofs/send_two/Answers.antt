@@ -1,4 +1,3 @@
-use Rattle.lists.specs.Basics.{rules}
 use Rattle.sends.specs.Made.{none_sent, two_said, two_made}
 use Rattle.sends.proofs.send_two.Goals as goal
 

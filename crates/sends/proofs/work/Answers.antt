@@ -9,13 +9,9 @@ returns-then-no-ne0 c =
     let a = c.args in
     frame_refused a.s.now a.chare _ c.judge_chare-no.ensures c.if-no-ne0.true
 
--- LEFT slice-bounds-next-entry-end
--- part-next-entry-end c =
---     let i = c.before in
---     let j = i.before in
---     let st = j.before.before.before in
---     let h = index st.args.s.now st.args.chare _ j.judge-chare.ensures i.if1.false in
---     omega (arith, st.requires)
+pub slice_bounds-next_entry-end : goal.slice_bounds-next_entry-end
+slice_bounds-next_entry-end c =
+    let h = index c.args.s.now c.args.chare _ c.judge_chare-no.ensures c.if-no-ne0.false in omega arith
 
 pub work_at-requires : goal.work_at-requires
 unfolding found_entry

@@ -1,13 +1,13 @@
-use Rattle.lists.specs.Basics.{arith, refl, rules}
+use Rattle.lists.specs.Basics.{arith, refl}
 use Rattle.store.specs.ViewLaws.{span}
-use Rattle.sends.specs.WorkAt.{not-worked, all_sent, undone}
+use Rattle.sends.specs.WorkAt.{not_worked, all_sent, undone}
 use Rattle.sends.proofs.work_at.Goals as goal
 
 pub returns-then-no-ne0 : goal.returns-then-no-ne0
 returns-then-no-ne0 c =
     let a = c.args in
     let e = span a.c in
-    not-worked a.s.now c.requires.s_len a.c c.requires.c_bound.0 a.e c.requires.c_bound.1 _ _ (rw e at c.take-old.ensures) c.work_entry-w.ensures c.if-no-ne0.true
+    not_worked a.s.now c.requires.s_len a.c c.requires.c_bound.0 a.e c.requires.c_bound.1 _ _ (rw e at c.take-old.ensures) c.work_entry-w.ensures c.if-no-ne0.true
 
 pub returns-then-n-ne0 : goal.returns-then-n-ne0
 returns-then-n-ne0 c =

@@ -1,4 +1,4 @@
-use Rattle.lists.specs.Basics.{sym, ap, ◌∙◌, rules}
+use Rattle.lists.specs.Basics.{sym, ap, ◌∙◌}
 use Rattle.tickets.specs.{Fits.entry_at, Table.entry_of}
 use Rattle.tickets.proofs.at.Goals as goal
 

@@ -1,4 +1,4 @@
-use Rattle.lists.specs.Basics.{◌∙◌, rules}
+use Rattle.lists.specs.Basics.{◌∙◌}
 use Rattle.tickets.specs.Fits.{count_is}
 use Rattle.tickets.proofs.count.Goals as goal
 

@@ -1,4 +1,4 @@
-use Rattle.lists.specs.Basics.{drop, arith, ◌-◌, ◌≤◌, some, ◌≡◌, refl, sym, ap, ◌∙◌, eq-eqb, ne_eqb, rules}
+use Rattle.lists.specs.Basics.{arith, some, refl, sym, ap, ◌∙◌, eq-eqb, ne_eqb, rules}
 use Rattle.item.specs.Held.{held_next, held_end}
 use Rattle.tickets.specs.Table.{entry_of, as_entry, entries, found_entry}
 use Rattle.protocol.specs.Tickets.{has_tn}

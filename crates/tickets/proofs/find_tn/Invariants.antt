@@ -1,6 +1,5 @@
-use Rattle.lists.specs.Basics.{drop, arith, ◌-◌, ◌≤◌, some, ◌≡◌, refl, sym, ap, ◌∙◌, eq-eqb, ne_eqb, rules}
-use Rattle.item.specs.Held.{held_next, held_end}
-use Rattle.tickets.specs.Table.{entry_of, as_entry, entries, found_entry}
+use Rattle.lists.specs.Basics.{drop, ◌-◌, ◌≤◌, ◌≡◌}
+use Rattle.tickets.specs.Table.{entries}
 use Rattle.protocol.specs.Tickets.{has_tn}
 use Rattle.lists.specs.Lists.{find}
 use Rattle.tickets.proofs.find_tn.Given as goal

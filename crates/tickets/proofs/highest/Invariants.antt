@@ -1,6 +1,5 @@
-use Rattle.lists.specs.Basics.{drop, arith, ◌-◌, ◌≤◌, ◌≡◌, refl, sym, ap, ◌∙◌, rules}
-use Rattle.item.specs.Held.{held_end}
-use Rattle.tickets.specs.{Table.{entry_of, entries}, Holes.highest_next}
+use Rattle.lists.specs.Basics.{drop, ◌-◌, ◌≤◌, ◌≡◌}
+use Rattle.tickets.specs.{Table.{entries}}
 use Rattle.protocol.specs.Tickets.{highest}
 use Rattle.tickets.proofs.highest.Given as goal
 

@@ -1,6 +1,5 @@
-use Rattle.lists.specs.Basics.{◌≡◌, sym, ◌∙◌, ◌-◌, ◌≤◌, arith, rules, not-true, not-false}
-use Rattle.protocol.specs.Tickets.{lowest_hole, first_free}
-use Rattle.tickets.specs.{Table.{entries, found_hole}, Holes.{hole_start, hole_next, no_hole}}
+use Rattle.lists.specs.Basics.{sym, ◌∙◌, arith, rules, not-true, not-false}
+use Rattle.tickets.specs.{Table.{found_hole}, Holes.{hole_start, hole_next, no_hole}}
 use Rattle.tickets.proofs.lowest_hole.Goals as goal
 
 pub returns-then-top-height : goal.returns-then-top-height

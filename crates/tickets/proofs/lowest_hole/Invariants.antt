@@ -1,6 +1,6 @@
-use Rattle.lists.specs.Basics.{◌≡◌, sym, ◌∙◌, ◌-◌, ◌≤◌, arith, rules, not-true, not-false}
+use Rattle.lists.specs.Basics.{◌≡◌, ◌-◌, ◌≤◌}
 use Rattle.protocol.specs.Tickets.{lowest_hole, first_free}
-use Rattle.tickets.specs.{Table.{entries, found_hole}, Holes.{hole_start, hole_next, no_hole}}
+use Rattle.tickets.specs.{Table.{entries}}
 use Rattle.tickets.proofs.lowest_hole.Given as goal
 
 abbrev pub invariant-loop-n : goal.invariant-loop-n

@@ -1,4 +1,4 @@
-use Rattle.lists.specs.Basics.{sym, ap, ◌∙◌, ◌+◌, rules}
+use Rattle.lists.specs.Basics.{sym, ap, ◌∙◌, ◌+◌}
 use Rattle.protocol.specs.Tickets.{next_tn, hole_or}
 use Rattle.tickets.specs.Table.{found_hole}
 use Rattle.tickets.proofs.next_tn.Goals as goal

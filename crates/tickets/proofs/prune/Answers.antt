@@ -1,8 +1,8 @@
-use Rattle.lists.specs.Basics.{Bool, ◌-◌, ℕ, ◌∙◌, arith, lt-ltb, le-ltb, rules}
-use Rattle.words.specs.Sift.{Sifting, sift_start, sift_keep, sift_skip, sift_some, sift_all}
+use Rattle.lists.specs.Basics.{◌∙◌, arith, lt-ltb, le-ltb}
+use Rattle.words.specs.Sift.{sift_start, sift_keep, sift_skip, sift_some, sift_all}
 use Rattle.protocol.specs.{Checkpoint.above_height, Tickets.mark_noted}
-use Rattle.item.specs.{declared.Item.Item, Item.{item_of, items}, Both.both_sifted}
-use Rattle.tickets.specs.{Table.{as_entry, entry_of, packed, entries}, EntryLaws.{above_is, packed_note}}
+use Rattle.item.specs.{Item.{item_of, items}, Both.both_sifted}
+use Rattle.tickets.specs.{Table.{as_entry, entry_of, entries}, EntryLaws.{above_is, packed_note}}
 use Rattle.tickets.proofs.prune.Invariants.{above, marked}
 use Rattle.tickets.proofs.prune.Goals as goal
 

@@ -1,4 +1,3 @@
-use Rattle.lists.specs.Basics.{rules}
 use Rattle.item.specs.{Held.held_push, Item.{item_of, items}}
 use Rattle.tickets.specs.{Table.{entry_of, entries}, EntryLaws.packed_entry}
 use Rattle.tickets.proofs.push.Goals as goal

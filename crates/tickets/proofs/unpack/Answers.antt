@@ -1,4 +1,3 @@
-use Rattle.lists.specs.Basics.{rules}
 use Rattle.tickets.specs.Table.{entry_of, as_entry}
 use Rattle.tickets.proofs.unpack.Goals as goal
 

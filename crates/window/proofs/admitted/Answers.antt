@@ -1,5 +1,4 @@
 -- `admitted`, by the reply.
-use Rattle.lists.specs.Basics.{rules}
 use Rattle.protocol.specs.Window.{admitted}
 use Rattle.window.proofs.admitted.Goals as goal
 

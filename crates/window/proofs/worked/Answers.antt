@@ -1,5 +1,4 @@
 -- `worked`, by the reply.
-use Rattle.lists.specs.Basics.{rules}
 use Rattle.protocol.specs.Window.{worked}
 use Rattle.window.proofs.worked.Goals as goal
 

@@ -4,9 +4,6 @@ use Rattle.memory.specs.Places.{SN, LOG, ROW}
 use Rattle.sends.specs.InMemory.{logged_put}
 use Rattle.sends.proofs.message.log_message.Goals as goal
 
--- LEFT slice-bounds-push-end
--- part-push-end c = simp length-set (omega arith)
-
 pub shape_of-x : goal.shape_of-x
 shape_of-x c =
     let a = c.args in

@@ -1,4 +1,4 @@
-use Rattle.lists.specs.Basics.{rules, not-true, not-false, lt-ltb, le-ltb}
+use Rattle.lists.specs.Basics.{not-true, not-false, lt-ltb, le-ltb}
 use Rattle.sends.specs.{Plan.last_after, Ticket.sn_next}
 use Rattle.sends.proofs.plan.last_after.Goals as goal
 

@@ -1,4 +1,4 @@
-use Rattle.lists.specs.Basics.{le-leb, lt-leb, arith, rules}
+use Rattle.lists.specs.Basics.{le-leb, lt-leb, arith}
 use Rattle.sends.specs.{Plan.new_plan, Reading.table_top}
 use Rattle.memory.specs.{Places.{TABLE, ROW}, View.table_part}
 use Rattle.words.specs.Part.{part}
@@ -12,11 +12,8 @@ returns-then-tn-gt60000 c =
     unfold new_plan in
     rw (table_part a.y.now, ← c.top-top.ensures, lt-leb (next_tn a.base c.top-top.result (entries (part TABLE ROW a.y.now))) 60000 (omega (arith, c.next_tn-tn.ensures, c.if-tn-gt60000.true))) c.idle.ensures
 
--- LEFT overflow-add-t21
--- add-t21 c =
---     let k = c.before in
---     let st = k.before.before.before.before.before.before.before.before in
---     omega (arith, table_top st.args.y.now st.requires.0, k.count.ensures, st.requires.1)
+pub overflow_add-result : goal.overflow_add-result
+overflow_add-result c = omega (arith, table_top c.args.y.now c.requires.y_len, c.count-count.ensures)
 
 pub returns : goal.returns
 returns c =

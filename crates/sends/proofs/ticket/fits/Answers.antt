@@ -1,4 +1,4 @@
-use Rattle.lists.specs.Basics.{sym, ap, rules}
+use Rattle.lists.specs.Basics.{sym, ap}
 use Rattle.sends.specs.Ticket.{fits}
 use Rattle.sends.proofs.ticket.fits.Goals as goal
 
