@@ -1,4 +1,4 @@
-/* The proved engine for callers in C (x86-64). `rt staticlib satuphir` proves it and writes target/staticlib/libsatuphir.a, to be
+/* The proved engine for callers in C (x86-64). `tools/library.sh` proves it and writes target/staticlib/libsatuphir.a, to be
    linked; it needs nothing else and keeps nothing between calls. c/play.c, c/pieces.c, c/survivors.c and c/precedes.c are examples. */
 #ifndef SATUPHIR_H
 #define SATUPHIR_H

@@ -22,7 +22,7 @@ fn main() {
     if !library.is_file() {
         println!(
             "cargo:warning=no library {}: there is no proved engine here; write it with \
-             `rt staticlib satuphir`, or name its folder in SATUPHIR_LIB",
+             `tools/library.sh`, or name its folder in SATUPHIR_LIB",
             library.display()
         );
         return;

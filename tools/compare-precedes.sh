@@ -6,6 +6,6 @@ count=${1:-100000}
 seed=${2:-1}
 root=$(cd "$(dirname "$0")/.." && pwd)
 library=${SATUPHIR_LIB:-$root/target/staticlib}/libsatuphir.a
-[ -f "$library" ] || (cd "$root" && rt check satuphir >/dev/null && rt staticlib satuphir >/dev/null)
+[ -f "$library" ] || "$root/tools/library.sh" >&2
 cargo build --release --offline --quiet --manifest-path "$root/reference/Cargo.toml" --features engine --bin compare-precedes
 "$root/reference/target/release/compare-precedes" "$count" "$seed"

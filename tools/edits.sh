@@ -4,6 +4,8 @@
 set -euo pipefail
 export LC_ALL=C # one order of names everywhere
 cd "$(dirname "$0")/.."
+root=$PWD
+. tools/crates.sh
 names() { # FOLDER
   local file all=
   for file in "$1"/*.edit; do
@@ -24,7 +26,7 @@ and `tools/must-fail.sh` tries them. This page is written by `tools/edits.sh`.
 | crate | in the gate | beyond it |
 |---|---|---|
 TEXT
-  sed -n 's/^\([a-z_]*\):.*/\1/p' crates.txt | while read -r crate; do
+  all_crates | while read -r crate; do
     gate=$(names "crates/$crate/must-fail") beyond=$(names "must-fail/$crate")
     [ "$gate$beyond" = -- ] || echo "| \`$crate\` | $gate | $beyond |"
   done

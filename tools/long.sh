@@ -1,6 +1,6 @@
 #!/usr/bin/env bash
 # long.sh [PART...]: what is too long for the gate, each part a script of its own, with a summary at the end. Without a PART: all of them,
-# some two hours on two cores. Run it on a tree that has passed `.ci/run`, whose proofs it uses.
+# some two hours on two cores with an older kit. Run it on a tree that has passed `.ci/run`, whose proofs it uses.
 set -euo pipefail
 root=$(cd "$(dirname "$0")/.." && pwd)
 cd "$root"

@@ -4,6 +4,6 @@
 set -euo pipefail
 root=$(cd "$(dirname "$0")/.." && pwd)
 library=${SATUPHIR_LIB:-$root/target/staticlib}/libsatuphir.a
-[ -f "$library" ] || (cd "$root" && rt check satuphir >/dev/null && rt staticlib satuphir >/dev/null)
+[ -f "$library" ] || "$root/tools/library.sh" >&2
 cargo build --release --offline --quiet --manifest-path "$root/reference/Cargo.toml" --features engine --bin measure-precedes
 "$root/reference/target/release/measure-precedes"

@@ -4,7 +4,7 @@
 # of the proved program on an input of 100 MB and on one line of 10 MB.
 set -euo pipefail
 . "$(dirname "$0")/programs.sh"
-[ -f "${SATUPHIR_LIB:-$root/target/staticlib}/libsatuphir.a" ] || (cd "$root" && rt staticlib satuphir >/dev/null)
+[ -f "${SATUPHIR_LIB:-$root/target/staticlib}/libsatuphir.a" ] || "$root/tools/library.sh" >&2
 cargo build --release --offline --quiet --manifest-path "$root/reference/Cargo.toml" --features engine --bin short
 short=$root/reference/target/release/short
 nanoseconds() { # PROGRAM LIST: of one run

@@ -4,6 +4,7 @@
 # is not proved again. Status: 0 refused, 1 not refused, 2 no edit that could be tried.
 set -euo pipefail
 root=$(cd "$(dirname "$(readlink -f -- "${BASH_SOURCE[0]}")")/.." && pwd)
+. "$root/tools/crates.sh"
 fail() { echo "rival.sh: $*" >&2; exit 2; }
 if [ $# -lt 1 ] || [ $# -gt 2 ]; then echo "usage: rival.sh FILE [CRATE]" >&2; exit 2; fi
 [ -f "$1" ] || fail "$1: there is no such file"
@@ -19,21 +20,22 @@ else fail "$1: it stands in no crate's must-fail folder; name the crate: rival.s
 fi
 [ -d "$root/crates/$crate/src" ] || fail "there is no crate \"$crate\""
 command -v rt >/dev/null || fail "rt, the Rattle toolchain, is needed, and not found"
-[ -f "$root/target/stamp/$crate" ] || echo "rival.sh: $crate, and what it needs, is proved first ..." >&2
+[ -z "$(unproved $(needed "$crate"))" ] || echo "rival.sh: $crate, and what it needs, is proved first ..." >&2
 
 work=$(mktemp -d); trap 'rm -rf "$work"' EXIT
-cp -r "$root/crates" "$root/crates.txt" "$work"
-if [ -d "$root/target" ]; then cp -r "$root/target" "$work"; fi
-rm -rf "$work"/crates/*/must-fail "$work/target/must-fail"
-mkdir "$work/crates/$crate/must-fail"
-cp "$1" "$work/crates/$crate/must-fail/rival.edit"
-(cd "$work" && rt must-fail "$crate") >"$work/log" 2>&1 || true
-said=$(grep "^rt: must-fail $crate/rival: " "$work/log") || { cat "$work/log" >&2; fail "the edit was not tried: the crate itself is not proved"; }
-said=${said#"rt: must-fail $crate/rival: "}
+# Of a crate that is not proved, whatever is changed, the prover refuses all.
+"$root/tools/prove.sh" "$crate" 2>"$work/log" >/dev/null || { cat "$work/log" >&2; fail "the edit was not tried: the crate itself is not proved"; }
+copy_crates "$work/copy" $(needed "$crate")
+copy_built "$work/copy" $(needed "$crate")
+mkdir "$work/copy/crates/$crate/must-fail"
+cp "$1" "$work/copy/crates/$crate/must-fail/rival.edit"
+(cd "$work/copy" && rt must-fail "$crate") >"$work/log" 2>&1 || true
+said=$(grep "^rt: must-fail $crate/rival.edit: " "$work/log") || { cat "$work/log" >&2; fail "the edit was not tried"; }
+said=${said#"rt: must-fail $crate/rival.edit: "}
 case $said in
-  refused*)
-    echo "$crate: $said"
-    grep -m 1 -h -e ': error' -e '^note: ' "$work/target/must-fail/$crate/rival/.log" | sed "s|$work/target/must-fail/$crate/rival/||" || true ;;
+  # Behind the colon stands what the prover said first.
+  "refused, as it must be: "*) printf '%s: %s\n%s\n' "$crate" "${said%%: *}" "${said#*: }" ;;
+  refused*) echo "$crate: $said" ;;
   "NOT REFUSED"*) echo "$crate: $said"; exit 1 ;;
   *) sed -n "/^rt: must-fail/,\$p" "$work/log" >&2; fail "$1: $said" ;;
 esac

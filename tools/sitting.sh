@@ -18,6 +18,6 @@ program=$root/target/bin/sitting
 if [ ! -x "$program" ]; then
   command -v rt >/dev/null || { say "rt, the Rattle toolchain, is not found: it proves the program; \`tools/satuphir play --quick\` does without"; exit 2; }
   echo "proving and building the program, once ..." >&2
-  (cd "$root" && rt check sitting </dev/null >&2)
+  "$root/tools/prove.sh" sitting </dev/null >&2
 fi
 if [ "$1" = - ]; then "$program"; else "$program" <"$1"; fi

@@ -7,7 +7,7 @@ root=$(cd "$(dirname "$0")/.." && pwd)
 program=$root/target/bin/survivors
 if [ ! -x "$program" ]; then
   echo "proving and building the program, once ..." >&2
-  (cd "$root" && rt check survivors >&2)
+  "$root/tools/prove.sh" survivors >&2
 fi
 
 # The buddy of machine p of m, 0 if it is not named.

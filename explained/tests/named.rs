@@ -194,10 +194,11 @@ fn commands() {
     all_there(&documents(), 10, |look, text| look.options(text, &helps));
     let crates: Vec<String> = document("crates.txt")
         .lines()
-        .filter_map(|line| Some(line.split_once(':')?.0.to_string()))
+        .filter_map(|line| line.split_once(':')?.0.split(' ').next())
+        .map(str::to_string)
         .collect();
     all_there(&documents(), 2, |look, text| {
-        for command in ["rt check", "rt must-fail", "rt staticlib"] {
+        for command in ["tools/prove.sh", "rt must-fail", "rt ci"] {
             look.after(text, command, &crates);
         }
     });
@@ -223,7 +224,7 @@ fn the_gate() {
     let mut found = 0;
     for step in steps.iter().filter(|step| step.starts_with('`')) {
         let codes = step.split('`').skip(1).step_by(2);
-        for code in codes.filter(|code| code.contains(' ')) {
+        for code in codes.filter(|code| code.contains(' ') || code.starts_with("tools/")) {
             let at = rest.find(code);
             let at = at.unwrap_or_else(|| panic!("not there, or too early: {code}"));
             rest = &rest[at + code.len()..];

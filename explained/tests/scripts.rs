@@ -53,15 +53,14 @@ fn satuphir_by_a_link() {
     }
 }
 
-/// What the stand-in for `rt` does: it says that these crates are proved, and writes the library.
-fn proving(crates: &[(&str, &str)]) -> String {
-    let said = crates
-        .iter()
-        .map(|(name, how)| format!("echo 'rt: {name} proved ({how})'; "));
-    format!(
-        "echo 'fn some: proved'; if [ $1 = check ]; then {} true; else mkdir -p target/staticlib; touch target/staticlib/libsatuphir.a; fi",
-        said.collect::<String>()
-    )
+/// What the stand-in for `rt` does: it notes what it is called for, proves, and writes the library.
+const PROVING: &str = "echo 'fn some: proved'; echo \"$* ${PWD##*/}\" >>../../called
+                       if [ $1 = lib ]; then mkdir -p out; touch out/libsatuphir.a; fi";
+
+/// What a script says, but for the crates that it says are proved.
+fn without_crates(said: &str) -> String {
+    let lines = said.split_inclusive('\n');
+    lines.filter(|line| !line.starts_with("rt: ")).collect()
 }
 
 /// `play` in a clone whose crates of these names are proved already.
@@ -86,55 +85,51 @@ fn first_play(name: &str, rt: &str, proved: &[&str]) -> (PathBuf, (i32, String, 
 #[test]
 #[cfg_attr(not(library), ignore = "needs the engine's library")]
 fn satuphir_says_how_far_it_is() {
-    let rt = proving(&[
-        ("lists", "1 s"),
-        ("protocol", "16 s"),
-        ("window", "4 s"),
-        ("satuphir", "9 s"),
-    ]);
-    let said = "satuphir: proving and building the engine: 4 crates, five to seven minutes the first time (--quick does without)\n\
-                satuphir: proved 1 of 4: lists\nsatuphir: proved 2 of 4: protocol\nsatuphir: proved 3 of 4: window\n\
-                satuphir: proved 4 of 4: satuphir\n";
-    let library = "satuphir: writing the library ...\n";
-    let (_, first) = first_play("how-far", &rt, &[]);
-    assert_eq!(first, (0, "02\n".to_string(), format!("{said}{library}")));
-    let (root, first) = first_play("not-far", &format!("{rt}; exit 1"), &[]);
-    let log = root.join("target/satuphir.log");
-    let said = format!(
-        "{said}satuphir: the engine was not built; {} says why\n",
-        log.display()
-    );
-    assert_eq!(first, (2, String::new(), said));
-    assert!(fs::read_to_string(log)
-        .expect("a log")
-        .contains("fn some: proved"));
+    let most = "satuphir: proving and building the engine: 4 crates, five to seven minutes the first time (--quick does without)\n\
+                satuphir: proved 1 of 4: lists\nsatuphir: proved 2 of 4: protocol\nsatuphir: proved 3 of 4: window\n";
+    let said =
+        format!("{most}satuphir: proved 4 of 4: satuphir\nsatuphir: writing the library ...\n");
+    let (_, first) = first_play("how-far", PROVING, &[]);
+    assert_eq!(first, (0, "02\n".to_string(), said.clone()));
+    for (name, failing, said) in [
+        ("not-far", "check satuphir", most),
+        ("no-library", "lib satuphir", &said),
+    ] {
+        let rt = format!("{PROVING}\n[ \"$* ${{PWD##*/}}\" != '{failing}' ]");
+        let (root, first) = first_play(name, &rt, &[]);
+        let log = root.join("target/satuphir.log");
+        let said = format!(
+            "{said}satuphir: the engine was not built; {} says why\n",
+            log.display()
+        );
+        assert_eq!(first, (2, String::new(), said));
+        assert!(fs::read_to_string(log)
+            .expect("a log")
+            .contains("fn some: proved"));
+    }
 }
 
 /// What is proved already takes no minutes, and is not counted.
 #[test]
 #[cfg_attr(not(library), ignore = "needs the engine's library")]
 fn satuphir_counts_what_is_left() {
-    let unchanged = "unchanged since it was last proved";
-    let rt = proving(&["lists", "protocol", "window", "satuphir"].map(|name| (name, unchanged)));
-    let (_, first) = first_play(
+    let called = |root: &PathBuf| fs::read_to_string(root.join("called")).expect("a note");
+    let (root, first) = first_play(
         "all-proved",
-        &rt,
+        PROVING,
         &["lists", "protocol", "window", "satuphir"],
     );
     let said = "satuphir: all 4 crates are proved already: writing the engine's library, less than a minute ...\n";
     assert_eq!(first, (0, "02\n".to_string(), said.to_string()));
+    assert_eq!(called(&root), "lib satuphir\n");
     // One that is not proved takes those with it that need it.
-    let rt = proving(&[
-        ("lists", unchanged),
-        ("protocol", "16 s"),
-        ("window", "4 s"),
-        ("satuphir", "9 s"),
-    ]);
-    let (_, first) = first_play("some-proved", &rt, &["lists", "window", "satuphir"]);
+    let (root, first) = first_play("some-proved", PROVING, &["lists", "window", "satuphir"]);
     let said = "satuphir: proving and building the engine: 3 of 4 crates are not proved yet, some minutes (--quick does without)\n\
                 satuphir: proved 1 of 3: protocol\nsatuphir: proved 2 of 3: window\nsatuphir: proved 3 of 3: satuphir\n\
                 satuphir: writing the library ...\n";
     assert_eq!(first, (0, "02\n".to_string(), said.to_string()));
+    let proved = "check protocol\ncheck window\ncheck satuphir\nlib satuphir\n";
+    assert_eq!(called(&root), proved);
 }
 
 /// Without the toolchain one line says what works and what does not.
@@ -193,7 +188,7 @@ fn lists_says_that_it_builds() {
 /// `-` is standard input, which is the list's to the last byte: no program that builds or proves reads it.
 #[test]
 fn sitting_takes_standard_input() {
-    let rt = "cat; mkdir -p target/bin && printf '#!/bin/sh\\ncat\\n' >target/bin/sitting && chmod +x target/bin/sitting";
+    let rt = "cat; [ $1 = check ] || { mkdir -p out && printf '#!/bin/sh\\ncat\\n' >out/sitting && chmod +x out/sitting; }";
     let (root, path) = unbuilt("sitting-input", rt);
     fs::write(root.join("list"), "1201\n").expect("a list");
     for (words, status, out, error) in [
@@ -209,7 +204,8 @@ fn sitting_takes_standard_input() {
     ] {
         let script = format!("bash tools/sitting.sh {words}");
         let want = (status, out.to_string(), error.to_string());
-        assert_eq!(run_there(&root, &path, &["-c", &script]), want, "{words}");
+        let (status, out, error) = run_there(&root, &path, &["-c", &script]);
+        assert_eq!((status, out, without_crates(&error)), want, "{words}");
     }
 }
 
@@ -236,8 +232,7 @@ fn sitting_looks_at_its_list_first() {
 #[test]
 #[cfg_attr(not(library), ignore = "needs the engine's library")]
 fn the_table_of_crash_sets() {
-    let built =
-        "[ \"$*\" = 'check survivors' ] && mkdir -p target/bin && cp bin/survivors target/bin";
+    let built = "[ \"$* ${PWD##*/}\" != 'run survivors' ] || { mkdir -p out && cp ../../bin/survivors out; }";
     let (root, path) = unbuilt("crash-sets", built);
     let command = env!("CARGO_BIN_EXE_satuphir");
     put_script(
@@ -250,8 +245,9 @@ fn the_table_of_crash_sets() {
     let table = format!("| layout |{table}\n");
     let words = ["tools/survivors-table.sh"];
     let said = "proving and building the program, once ...\n";
+    let (status, out, error) = run_there(&root, &path, &words);
     assert_eq!(
-        run_there(&root, &path, &words),
+        (status, out, without_crates(&error)),
         (0, table.clone(), said.to_string())
     );
     // The second time it is there.

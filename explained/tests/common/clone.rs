@@ -34,11 +34,20 @@ pub fn unbuilt(name: &str, rt: &str) -> (PathBuf, String) {
         )
         .expect("a copy");
     }
-    for crate_ in ["lists", "protocol", "window", "satuphir"] {
-        fs::create_dir_all(root.join("crates").join(crate_).join("src")).expect("a crate");
+    for (crate_, source) in [
+        ("lists", "lib.rt"),
+        ("protocol", "lib.rt"),
+        ("window", "lib.rt"),
+        ("survivors", "main.rt"),
+        ("sitting", "main.rt"),
+        ("satuphir", "lib.rt"),
+    ] {
+        let folder = root.join("crates").join(crate_).join("src");
+        fs::create_dir_all(&folder).expect("a crate");
+        fs::write(folder.join(source), "").expect("a source");
     }
-    let crates =
-        "lists:\nprotocol: lists\nwindow: lists protocol\nsatuphir: lists protocol window\n";
+    let crates = "# level by level\nlists:\nprotocol: lists\nwindow: lists protocol\nsurvivors: lists\nsitting: lists\n\
+                  satuphir staticlib: lists protocol window\n";
     fs::write(root.join("crates.txt"), crates).expect("a file");
     put_script(&root.join("bin/rt"), rt);
     put_script(&root.join("bin/cargo"), "");
@@ -56,7 +65,7 @@ pub fn without_rt(root: &Path) -> String {
     let folders = std::env::var_os("PATH").expect("a path");
     let needed = [
         "bash", "env", "sh", "awk", "basename", "cat", "cp", "dirname", "find", "grep", "mkdir",
-        "mktemp", "readlink", "rm", "sed", "tee", "wc",
+        "mktemp", "readlink", "rm", "sed", "tee", "touch", "wc",
     ];
     for name in needed {
         let found = std::env::split_paths(&folders).map(|folder| folder.join(name));

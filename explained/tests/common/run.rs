@@ -5,6 +5,7 @@ use std::fs;
 use std::io::Write;
 use std::path::{Path, PathBuf};
 use std::process::{Command, Output, Stdio};
+use std::sync::Once;
 
 pub fn satuphir() -> Command {
     Command::new(env!("CARGO_BIN_EXE_satuphir"))
@@ -37,12 +38,30 @@ pub fn fed(args: &[&str], input: &[u8]) -> (i32, String, String) {
     result(run.wait_with_output().expect("an end"))
 }
 
-/// An empty folder for one test.
+/// An empty folder for one test. It is not in the repository: there `rt ci` refuses links and a second crates.txt.
 pub fn fresh(name: &str) -> PathBuf {
-    let folder = PathBuf::from(env!("CARGO_TARGET_TMPDIR")).join(name);
+    static SWEPT: Once = Once::new();
+    SWEPT.call_once(sweep);
+    let own = format!("{OWN}{}", std::process::id());
+    let folder = std::env::temp_dir().join(own).join(name);
     let _ = fs::remove_dir_all(&folder);
     fs::create_dir_all(&folder).expect("a folder");
     folder
+}
+
+/// How the folder of a run of tests is called, before the number of its process.
+const OWN: &str = "satuphir-tests-";
+
+/// Removes what runs that have ended left.
+fn sweep() {
+    let left = fs::read_dir(std::env::temp_dir()).expect("a folder");
+    for folder in left.filter_map(Result::ok) {
+        let name = folder.file_name().to_string_lossy().into_owned();
+        let number = name.strip_prefix(OWN).map(str::to_string);
+        if number.is_some_and(|number| !Path::new("/proc").join(number).exists()) {
+            let _ = fs::remove_dir_all(folder.path());
+        }
+    }
 }
 
 /// Each subcommand with a list of this name.
