@@ -21,21 +21,21 @@ returns-in-Note c =
 pub deliver_to-requires : goal.deliver_to-requires
 deliver_to-requires c =
     let to : c.if-kind-eq2.to ≡ cond (eqb c.args.kind 2) c.args.sender c.args.receiver =
-        elim c.if-kind-eq2.branch [
-            then-kind-eq2 w ↦ w.to-is ∙ rw (eq-eqb _ 2 w.if-kind-eq2.true)
-            | else-kind-eq2 w ↦ w.to-is ∙ rw (ne_eqb _ 2 w.if-kind-eq2.false)
-        ] in
+    elim c.if-kind-eq2.branch [
+      | then-kind-eq2 w ↦ w.to-is ∙ rw (eq-eqb _ 2 w.if-kind-eq2.true)
+      | else-kind-eq2 w ↦ w.to-is ∙ rw (ne_eqb _ 2 w.if-kind-eq2.false)
+    ] in
     record {
-        s_len = c.requires;
-        c_bound = rw to (place_fits _ _ _ _ _ _ c.judge-no.ensures c.if-no-ne0.false);
-        waits = waiting _ _ _ _ _ _ c.judge-no.ensures c.if-no-ne0.false _ c.find-f.ensures c.in-At.is;
+      s_len = c.requires;
+      c_bound = rw to (place_fits _ _ _ _ _ _ c.judge-no.ensures c.if-no-ne0.false);
+      waits = waiting _ _ _ _ _ _ c.judge-no.ensures c.if-no-ne0.false _ c.find-f.ensures c.in-At.is;
     }
 
 pub returns : goal.returns
 returns c =
     let to : c.if-kind-eq2.to ≡ cond (eqb c.args.kind 2) c.args.sender c.args.receiver =
-        elim c.if-kind-eq2.branch [
-            then-kind-eq2 w ↦ w.to-is ∙ rw (eq-eqb _ 2 w.if-kind-eq2.true)
-            | else-kind-eq2 w ↦ w.to-is ∙ rw (ne_eqb _ 2 w.if-kind-eq2.false)
-        ] in
+    elim c.if-kind-eq2.branch [
+      | then-kind-eq2 w ↦ w.to-is ∙ rw (eq-eqb _ 2 w.if-kind-eq2.true)
+      | else-kind-eq2 w ↦ w.to-is ∙ rw (ne_eqb _ 2 w.if-kind-eq2.false)
+    ] in
     to_chare _ _ _ _ _ _ c.judge-no.ensures c.if-no-ne0.false _ c.find-f.ensures c.in-At.is _ _ c.in_default-c.not-Note _ to c.deliver_to.ensures
