@@ -1,6 +1,8 @@
 -- Copying into an array: what stands there afterwards.
-use Rattle.lists.specs.Basics.{inl, inr, List, ◌++◌, ◌≡◌, sym, ap, ◌∙◌, ℕ, ◌+◌, ◌-◌, ◌≤◌, ◌<◌, min, add-one, arith, length, take, drop, set, get_or, length-set, paste}
-use Rattle.lists.specs.Basics.{paste-suc, take-paste, take-append-add, length-take-le, take_all, take_at, drop_at, drop-drop, length-drop, drop_of_length-le, length-append, append-nil, append_assoc, []}
+use Rattle.std.specs.Prelude.{List, ◌++◌, ◌≡◌, ℕ, ◌+◌, ◌-◌, ◌≤◌, ◌<◌, min, length, take, drop, set, get_or, []}
+use Rattle.std.proofs.Common.{inl, inr, sym, ap, ◌∙◌, add-one, arith, length-set, length-take-le, take_all, take_at, drop_at, drop-drop, length-drop, drop_of_length-le, length-append, append-nil, append_assoc}
+use Rattle.std.proofs.Math.Seq.{paste, paste-suc, take-append-add}
+use Rattle.std.proofs.lemmas.List.Edits.{take-paste}
 use Rattle.lists.specs.Tests.{lt?}
 
 module _ {A : Type 0} where

@@ -1,5 +1,6 @@
 -- Loops that count: a test put to each number of a range, and how many pass it.
-use Rattle.lists.specs.Basics.{Bool, true, false, not, ◌&&◌, ◌||◌, List, [], ◌∷◌, ◌≡◌, refl, sym, ◌∙◌, ℕ, zero, suc, ◌+◌, ◌-◌, ◌<◌, ◌≤◌, arith, length}
+use Rattle.std.specs.Prelude.{Bool, true, false, not, ◌&&◌, ◌||◌, List, [], ◌∷◌, ◌≡◌, refl, ℕ, zero, suc, ◌+◌, ◌-◌, ◌<◌, ◌≤◌, length}
+use Rattle.std.proofs.Common.{sym, ◌∙◌, arith}
 use Rattle.lists.specs.{Lists.{allb, keep}, Counting.{counting, counting_next, counting_past}, Tests.either}
 
 -- the test p passes at n numbers from k on

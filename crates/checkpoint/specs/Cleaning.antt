@@ -1,5 +1,6 @@
 -- The loop that cleans the logs at the desk and on machines that are up.
-use Rattle.lists.specs.Basics.{◌≡◌, sym, ap, ◌∙◌, true, false, List, ℕ, ◌+◌, ◌<◌, ◌≤◌, length}
+use Rattle.std.specs.Prelude.{◌≡◌, true, false, List, ℕ, ◌+◌, ◌<◌, ◌≤◌, length}
+use Rattle.std.proofs.Common.{sym, ap, ◌∙◌}
 use Rattle.lists.specs.Lists.{keep}
 use Rattle.protocol.specs.Parts.{State, blank, up}
 use Rattle.protocol.specs.Setters.{with_live}

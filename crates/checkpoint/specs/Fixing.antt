@@ -1,5 +1,7 @@
 -- The loop that prunes the chares of a machine and copies them.
-use Rattle.lists.specs.Basics.{◌≡◌, sym, ap, ◌∙◌, fun_ext, true, false, List, ℕ, ◌+◌, ◌<◌, ◌≤◌, length}
+use Rattle.std.specs.Prelude.{◌≡◌, true, false, List, ℕ, ◌+◌, ◌<◌, ◌≤◌, length}
+use Rattle.std.proofs.Common.{sym, ap, ◌∙◌}
+use Rattle.std.proofs.Math.Path.{fun_ext}
 use Rattle.lists.specs.{Lists.keep, Map.upd_same, Tests.either}
 use Rattle.protocol.specs.{Parts.{State, Memory, blank, on, at_home}, Setters.{with_live, with_copies}, Checkpoint.{pruned, prune, fix_copy}}
 use Rattle.words.specs.Part.{part, put}

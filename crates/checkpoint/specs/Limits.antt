@@ -1,5 +1,6 @@
 -- The loop that gathers the heights of a machine's chares: below them a log drops messages.
-use Rattle.lists.specs.Basics.{◌≡◌, sym, ap, ◌∙◌, true, List, ℕ, ◌+◌, ◌<◌, ◌≤◌, length, set}
+use Rattle.std.specs.Prelude.{◌≡◌, true, List, ℕ, ◌+◌, ◌<◌, ◌≤◌, length, set}
+use Rattle.std.proofs.Common.{sym, ap, ◌∙◌}
 use Rattle.lists.specs.Map.{upd}
 use Rattle.arrays.specs.ArrayMap.{as_map, map_set}
 use Rattle.protocol.specs.Parts.{State, Memory, blank, on}

@@ -1,5 +1,6 @@
 -- The parts of a checkpoint on a whole state; put together, they are the definition's.
-use Rattle.lists.specs.Basics.{◌≡◌, refl, ap, ◌∙◌, true, [], ℕ}
+use Rattle.std.specs.Prelude.{◌≡◌, refl, true, [], ℕ}
+use Rattle.std.proofs.Common.{ap, ◌∙◌}
 use Rattle.lists.specs.{Lists.keep, Map.upd}
 use Rattle.protocol.specs.{Parts.{Memory, State, up}, Setters.{with_log, with_live, with_copies}, Checkpoint.{prune, fix_copy, clean_log, clean_logs, checkpoint}}
 use Rattle.logs.specs.{Log.is_kept, CleanUp.{heights_on, stays_is_kept}}

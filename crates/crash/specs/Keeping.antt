@@ -1,6 +1,8 @@
 -- The loop that takes the copies and the notes from the machines whose buddy crashes.
-use Rattle.lists.specs.Basics.{◌≡◌, refl, sym, ap, ◌∙◌, fun_ext, Bool, true, false, cond, not, ◌&&◌, ◌≢◌, List, [], ℕ, ◌+◌, ◌<◌, ◌≤◌, arith, eq-eqb, ne_eqb, eqb, length, set}
-use Rattle.lists.specs.Basics.{and-true, and-false}
+use Rattle.std.specs.Prelude.{◌≡◌, refl, Bool, true, false, cond, not, ◌&&◌, ◌≢◌, List, [], ℕ, ◌+◌, ◌<◌, ◌≤◌, eqb, length, set}
+use Rattle.std.proofs.Common.{sym, ap, ◌∙◌, arith, eq-eqb, ne_eqb}
+use Rattle.std.proofs.Math.Bool.{and-true, and-false}
+use Rattle.std.proofs.Math.Path.{fun_ext}
 use Rattle.arrays.specs.ArrayMap.{map_beyond}
 use Rattle.protocol.specs.{declared.Note.Note, Parts.State, Setters.with_copies, Crash.{kept_by, crash}}
 use Rattle.words.specs.Part.{part, part_length, put}

@@ -1,5 +1,6 @@
 -- The loops that clear the memories of a machine's chares, and the copies that it keeps.
-use Rattle.lists.specs.Basics.{◌≡◌, refl, sym, ap, ◌∙◌, Bool, true, false, ◌≢◌, List, ℕ, ◌+◌, ◌<◌, ◌≤◌, arith, eq-eqb, ne_eqb, eqb, length, replicate}
+use Rattle.std.specs.Prelude.{◌≡◌, refl, Bool, true, false, ◌≢◌, List, ℕ, ◌+◌, ◌<◌, ◌≤◌, eqb, length, replicate}
+use Rattle.std.proofs.Common.{sym, ap, ◌∙◌, arith, eq-eqb, ne_eqb}
 use Rattle.protocol.specs.{Parts.{State, Memory, blank, on, at_home}, Setters.{with_live, with_copies}, Crash.{kept_by, crash}}
 use Rattle.words.specs.Part.{part, part_length, put}
 use Rattle.head.specs.Head.{job_of}

@@ -1,5 +1,6 @@
 -- The parts of a crash, put together, are the definition's; and what the frame leaves.
-use Rattle.lists.specs.Basics.{◌≡◌, refl, ap, ◌∙◌, Bool, true, false, List, ℕ, ◌+◌, ◌<◌, arith, length, set}
+use Rattle.std.specs.Prelude.{◌≡◌, refl, Bool, true, false, List, ℕ, ◌+◌, ◌<◌, length, set}
+use Rattle.std.proofs.Common.{ap, ◌∙◌, arith}
 use Rattle.lists.specs.{Lists.keep, Questions.{first_no, put_all}}
 use Rattle.protocol.specs.{declared.Rule.TheVariants.Other, declared.Answer.TheVariants.{Accepted, Lost}, Parts.State, Setters.{with_lost, with_live, with_copies, with_wire}}
 use Rattle.protocol.specs.{Crash.{has_cover, survives, crash}, Questions.crash_questions, Step.{Outcome, judged}}

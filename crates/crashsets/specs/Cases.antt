@@ -1,5 +1,5 @@
 -- The proved cases of document 02, Point 8: one table, one theorem.
-use Rattle.lists.specs.Basics.{◌≡◌, refl}
+use Rattle.std.specs.Prelude.{◌≡◌, refl}
 use Prim.Native.String.{String}
 use Rattle.protocol.specs.Cases.Computing.{text, opened}
 use Rattle.crashsets.specs.CrashSets.{sets, has_size, stands, survives, total, survived, decimals, decimal, field, count_line, counts, report, reported, of_first, survivors}

@@ -1,5 +1,5 @@
 -- Document 02, Point 8: "How many crash sets are survived."
-use Rattle.lists.specs.Basics.{Bool, cond, not, List, [], ◌∷◌, ◌++◌, map, ℕ, zero, suc, ◌+◌, ◌/◌, ◌%◌, eqb, ltb, length}
+use Rattle.std.specs.Prelude.{Bool, cond, not, List, [], ◌∷◌, ◌++◌, map, ℕ, zero, suc, ◌+◌, ◌/◌, ◌%◌, eqb, ltb, length}
 use Rattle.lists.specs.{Lists.{allb, anyb, keep, gather}, Counting.counting}
 use Rattle.protocol.specs.{declared.Answer.Answer, declared.Answer.TheVariants.{Accepted, Shown, Lost, Refused}}
 use Rattle.protocol.specs.{Parts.{Job, start}, Frames.Line, Lines.{newline, lines, line}, Step.{Outcome, step}}

@@ -1,6 +1,6 @@
 -- Numbers of one and two digits, the line of f, and the lines of a job as the loop writes them.
-use Rattle.lists.specs.Basics.{◌≡◌, refl, sym, ◌∙◌, List, [], ◌∷◌, ◌++◌, append-nil, append_assoc, ℕ, zero, suc, ◌+◌, ◌-◌, ◌*◌, ◌^◌, ◌/◌, ◌%◌, ◌<◌, ◌≤◌, arith, length, length-append}
-use Rattle.lists.specs.Basics.{lt-ltb, le-ltb, inl, inr}
+use Rattle.std.specs.Prelude.{◌≡◌, refl, List, [], ◌∷◌, ◌++◌, ℕ, zero, suc, ◌+◌, ◌-◌, ◌*◌, ◌^◌, ◌/◌, ◌%◌, ◌<◌, ◌≤◌, length}
+use Rattle.std.proofs.Common.{sym, ◌∙◌, append-nil, append_assoc, arith, length-append, lt-ltb, le-ltb, inl, inr}
 use Rattle.lists.specs.{Lists.gather, Counting.{counting, counting_next, counting_past}, Tests.lt?}
 use Rattle.arrays.specs.{Copies.{put_at, put_put, Wrote, wrote_put}, Loops.tally_le}
 use Rattle.protocol.specs.{Parts.Job, Lines.newline}

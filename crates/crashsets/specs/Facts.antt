@@ -1,7 +1,11 @@
 -- What readers of the counts may expect of them: all sets are counted, as many as the binomial says; one crash is survived, and the crash
 -- of all machines is not.
-use Rattle.lists.specs.Basics.{◌≡◌, refl, sym, ap, fun_ext, ◌∙◌, Bool, true, false, cond, not, List, [], ◌∷◌, here, there, inl, inr, ℕ, zero, suc, ◌+◌, ◌^◌, ◌≤◌, arith, length}
-use Rattle.lists.specs.Basics.{eq-eqb, ne_eqb, eqb, eqb-true, not-true, length-append, length-map, pow-suc}
+use Rattle.std.specs.Prelude.{◌≡◌, refl, Bool, true, false, cond, not, List, [], ◌∷◌, ℕ, zero, suc, ◌+◌, ◌^◌, ◌≤◌, length, eqb}
+use Rattle.std.proofs.Common.{sym, ap, ◌∙◌, inl, inr, arith, eq-eqb, ne_eqb, eqb-true, length-append, pow-suc}
+use Rattle.std.proofs.Math.Path.{fun_ext}
+use Rattle.std.proofs.lemmas.Bool.{not-true}
+use Rattle.std.proofs.lemmas.List.{length-map}
+use mathlib.Core.List.Memᴰ.{head as here, tail as there}
 use Rattle.lists.specs.{Tests.{either, eq?, true_not_false}, Lists.{◌∈◌, allb, allb_true, anyb, anyb_true, keep, keep_append, keep_map, keep_mem, keep_all, keep_none, mem_map, map_mem}}
 use Rattle.protocol.specs.{Parts.Job, Job.{machines_of, job_in_range, job_of}}
 use Rattle.protocol.proofs.{Recovery.Frames.Job.{machine_known, job_ok}}

@@ -1,5 +1,6 @@
 -- What the first line of an input gets, by the frame that it is: before any job nothing but a job is accepted.
-use Rattle.lists.specs.Basics.{◌≡◌, refl, sym, ap, ◌∙◌, cond, List, [], ◌∷◌, ◌++◌, append_assoc, ℕ, zero, suc, ◌+◌, ◌<◌, arith, length, length-append, take, drop}
+use Rattle.std.specs.Prelude.{◌≡◌, refl, cond, List, [], ◌∷◌, ◌++◌, ℕ, zero, suc, ◌+◌, ◌<◌, length, take, drop}
+use Rattle.std.proofs.Common.{sym, ap, ◌∙◌, append_assoc, arith, length-append}
 use Rattle.lists.specs.{Tests.either, Questions.put_all}
 use Rattle.protocol.specs.{declared.Answer.TheVariants.Refused, Parts.{State, start, no_job, job_machines}, Restart.{settle_machine, settle_all, settle, is_done}}
 use Rattle.protocol.specs.{Frames.{Line, frame}, Lines.{newline, lines, line}, Job.{job_in_range, job_of, begin}, Step.{step, step_frame, play, outcome, accept, judged}}

@@ -1,5 +1,6 @@
 -- The machines of an accepted job, and their buddies.
-use Rattle.lists.specs.Basics.{◌≡◌, ◌∙◌, true, List, ℕ, ◌*◌, ◌^◌, ◌%◌, ◌≤◌, arith, le-leb}
+use Rattle.std.specs.Prelude.{◌≡◌, true, List, ℕ, ◌*◌, ◌^◌, ◌%◌, ◌≤◌}
+use Rattle.std.proofs.Common.{◌∙◌, arith, le-leb}
 use Rattle.protocol.specs.{Frames.between, Job.{machines_of, job_in_range, job_of, has_machine}}
 use Rattle.jobline.specs.JobLaws.{in_range}
 use Rattle.std.proofs.Math.Nat.{pow-le-pow_right}

@@ -1,5 +1,6 @@
 -- The loop over the words: how many of those passed are counted, and how many of these are survived.
-use Rattle.lists.specs.Basics.{◌≡◌, sym, ◌∙◌, true, false, ℕ, ◌+◌, ◌-◌, ◌^◌, ◌<◌, ◌≤◌, arith, eq-eqb, ne_eqb, length}
+use Rattle.std.specs.Prelude.{◌≡◌, true, false, ℕ, ◌+◌, ◌-◌, ◌^◌, ◌<◌, ◌≤◌, length}
+use Rattle.std.proofs.Common.{sym, ◌∙◌, arith, eq-eqb, ne_eqb}
 use Rattle.protocol.specs.Parts.{Job}
 use Rattle.arrays.specs.Loops.{tally, tally_hit, tally_miss, tally_end}
 use Rattle.crashsets.specs.{CrashSets.{has_size, survives, total, survived}, Words.{set_of, size_ones, is_counted, is_survived, total_words, survived_words}}

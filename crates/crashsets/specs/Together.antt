@@ -1,5 +1,6 @@
 -- The loop over the machines of a set, from the last on: does one stand together with its buddy?
-use Rattle.lists.specs.Basics.{◌≡◌, sym, ap, ◌∙◌, Bool, true, false, cond, not, ◌&&◌, List, ◌∷◌, ℕ, suc, ◌-◌, ◌≤◌, arith}
+use Rattle.std.specs.Prelude.{◌≡◌, Bool, true, false, cond, not, ◌&&◌, List, ◌∷◌, ℕ, suc, ◌-◌, ◌≤◌}
+use Rattle.std.proofs.Common.{sym, ap, ◌∙◌, arith}
 use Rattle.lists.specs.{Tests.{either, and_l, and_r}, Lists.allb}
 use Rattle.protocol.specs.Job.{machines_of, job_in_range, job_of}
 use Rattle.window.specs.Bits.{bits}

@@ -1,6 +1,8 @@
 -- "A set is a word with one bit per machine": the words 0 to 2^M - 1 are all sets, in the order of the definition.
-use Rattle.lists.specs.Basics.{◌≡◌, refl, sym, ap, ◌∙◌, Bool, true, false, cond, ◌&&◌, List, [], ◌∷◌, ◌++◌, map, ℕ, zero, suc, ◌+◌, ◌-◌, ◌*◌, ◌^◌, ◌/◌, ◌%◌, ◌<◌, ◌≤◌, arith, length}
-use Rattle.lists.specs.Basics.{eq-eqb, ne_eqb, eqb, length-map, pow-suc, div-eq_of_lt, inl, inr}
+use Rattle.std.specs.Prelude.{◌≡◌, refl, Bool, true, false, cond, ◌&&◌, List, [], ◌∷◌, ◌++◌, map, ℕ, zero, suc, ◌+◌, ◌-◌, ◌*◌, ◌^◌, ◌/◌, ◌%◌, ◌<◌, ◌≤◌, length, eqb}
+use Rattle.std.proofs.Common.{sym, ap, ◌∙◌, arith, eq-eqb, ne_eqb, pow-suc, inl, inr}
+use Rattle.std.proofs.Math.Nat.{div-eq_of_lt}
+use Rattle.std.proofs.lemmas.List.{length-map}
 use Rattle.lists.specs.{Tests.{either, eq?, lt?}, Lists.{anyb, keep_keep, keep_map, map_append}, Counting.counting}
 use Rattle.window.specs.{Bits.bits, BitLaws.low_bits}
 use Rattle.protocol.specs.Parts.{Job}

@@ -1,5 +1,5 @@
 -- What is left of a lookup where a pattern did not fit.
-use Rattle.lists.specs.Basics.{◌≡◌, refl}
+use Rattle.std.specs.Prelude.{◌≡◌, refl}
 use Rattle.protocol.specs.{declared.Lookup.Lookup, declared.Lookup.TheVariants.{Missing, Ticketed, Unticketed}}
 use Rattle.protocol.specs.{declared.Message.Message}
 use Rattle.deliver.specs.Effect.{unticketed}

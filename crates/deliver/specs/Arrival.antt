@@ -1,5 +1,8 @@
 -- A packet that arrives, in the definitions' state: one memory or one note list changes, and an answer goes to the end of the wire.
-use Rattle.lists.specs.Basics.{◌≡◌, refl, sym, ap, ◌∙◌, Bool, true, false, and-true, List, Option, some, none, ℕ}
+use Rattle.std.specs.Prelude.{◌≡◌, refl, Bool, true, false, List, ℕ}
+use Rattle.std.proofs.Common.{sym, ap, ◌∙◌}
+use Rattle.std.proofs.Math.Bool.{and-true}
+use Rattle.std.proofs.Math.Option.{Option, some, none}
 use Rattle.lists.specs.{Tests.either, Map.{upd, upd_self}, Questions.put_all}
 use Rattle.protocol.specs.{declared.Entry.Entry, declared.Message.Message, declared.Note.Note, declared.Packet.Packet, declared.Content.Content, declared.Rule.Rule}
 use Rattle.protocol.specs.{declared.Content.TheVariants.{Ask as ASK, GrantOld as GRANT-old, GrantReceived as GRANT-received, GrantNew as GRANT-new, Data as DATA, Note as NOTE, Ack as ACK}}

@@ -1,5 +1,7 @@
 -- What a memory of any contents sends fits a word, and so does the answer under a packet's own name.
-use Rattle.lists.specs.Basics.{◌≡◌, refl, Bool, true, false, List, Option, some, none, ℕ, ◌%◌, mod-eq_of_lt}
+use Rattle.std.specs.Prelude.{◌≡◌, refl, Bool, true, false, List, ℕ, ◌%◌}
+use Rattle.std.proofs.Common.{mod-eq_of_lt}
+use Rattle.std.proofs.Math.Option.{Option, some, none}
 use Rattle.lists.specs.Tests.{either}
 use Rattle.protocol.specs.declared.Content.{Content}
 use Rattle.protocol.specs.{declared.Content.TheVariants.{Ask as ASK, GrantOld as GRANT-old, GrantReceived as GRANT-received, GrantNew as GRANT-new, Data as DATA, Note as NOTE, Ack as ACK}}

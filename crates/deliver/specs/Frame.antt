@@ -1,5 +1,6 @@
 -- Frame 11 as a whole: its questions before the packet is sought, the state after it, and what becomes of a packet found.
-use Rattle.lists.specs.Basics.{Bool, not, ◌&&◌, List, [], ◌∷◌, Option, some, none, ℕ, ◌<◌, leb, length}
+use Rattle.std.specs.Prelude.{Bool, not, ◌&&◌, List, [], ◌∷◌, ℕ, ◌<◌, leb, length}
+use Rattle.std.proofs.Math.Option.{Option, some, none}
 use Rattle.lists.specs.Questions.{Question, ◌asks◌, Result, refuse, ok, put_all}
 use Rattle.protocol.specs.{declared.Rule.TheVariants.Other, declared.Packet.Packet, declared.Status.Status, Parts.{Job, State, number_limit}, Setters.with_wire}
 use Rattle.protocol.specs.{Frames.between}

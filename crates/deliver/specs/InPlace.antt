@@ -1,5 +1,6 @@
 -- Frame 11 in place: what its functions leave of the store's parts, put into the store, is what the frame leaves of the state.
-use Rattle.lists.specs.Basics.{◌≡◌, refl, sym, ap, ◌∙◌, List, [], ◌∷◌, ◌++◌, ℕ, ◌<◌, ◌≤◌, arith, length, length-append, length-take, length-drop}
+use Rattle.std.specs.Prelude.{◌≡◌, refl, List, [], ◌∷◌, ◌++◌, ℕ, ◌<◌, ◌≤◌, length}
+use Rattle.std.proofs.Common.{sym, ap, ◌∙◌, arith, length-append, length-take, length-drop}
 use Rattle.lists.specs.{Map.upd, Questions.{Question, put_all, put_ok}}
 use Rattle.arrays.specs.Front.{push_fits}
 use Rattle.protocol.specs.{declared.Rule.Rule, declared.Rule.TheVariants.Other, declared.Answer.TheVariants.{Accepted, Refused}, declared.Packet.Packet, declared.Content.TheVariants.Ack as ACK}

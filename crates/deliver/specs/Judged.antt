@@ -1,5 +1,7 @@
 -- Frame 11 judged, in the definitions' state: by its first questions, by the packet found, and by what the packet does.
-use Rattle.lists.specs.Basics.{◌≡◌, refl, sym, ap, ◌∙◌, true, false, List, [], ◌∷◌, ◌++◌, some, none, ℕ}
+use Rattle.std.specs.Prelude.{◌≡◌, refl, true, false, List, [], ◌∷◌, ◌++◌, ℕ}
+use Rattle.std.proofs.Common.{sym, ap, ◌∙◌}
+use Rattle.std.proofs.Math.Option.{some, none}
 use Rattle.lists.specs.{Lists.remove1, Questions.{Question, ◌asks◌, put_all, first_no, first_no_yes, put_no, put_after}}
 use Rattle.protocol.specs.{declared.Rule.TheVariants.Other, declared.Answer.TheVariants.Refused, declared.Packet.Packet, declared.Content.TheVariants.Note as NOTE, Parts.{State, up}}
 use Rattle.protocol.specs.{Packets.{is_named, store_note, arrive, rule_of, deliver}, Step.{Outcome, judged}}

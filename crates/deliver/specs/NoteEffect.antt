@@ -1,5 +1,5 @@
 -- What a NOTE does to the note list that it goes to.
-use Rattle.lists.specs.Basics.{cond, ◌||◌, List, [], ◌∷◌, ◌++◌, ltb, length}
+use Rattle.std.specs.Prelude.{cond, ◌||◌, List, [], ◌∷◌, ◌++◌, ltb, length}
 use Rattle.lists.specs.Questions.{Question, ◌asks◌}
 use Rattle.protocol.specs.{declared.Note.Note, Parts.note_room, Packets.has_note}
 

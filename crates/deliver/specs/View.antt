@@ -1,5 +1,7 @@
 -- What the answers of this crate's functions mean.
-use Rattle.lists.specs.Basics.{◌≡◌, refl, ◌∙◌, List, [], Option, some, none, ℕ, zero, suc, ◌<◌, arith}
+use Rattle.std.specs.Prelude.{◌≡◌, refl, List, [], ℕ, zero, suc, ◌<◌}
+use Rattle.std.proofs.Common.{◌∙◌, arith}
+use Rattle.std.proofs.Math.Option.{Option, some, none}
 use Rattle.lists.specs.Questions.{Question, Result, ok, refuse, put_all}
 use Rattle.arrays.specs.Front.{push}
 use Rattle.protocol.specs.{declared.Content.Content, declared.Rule.TheVariants.Other, declared.Packet.Packet, Parts.{Memory, wire_room}}

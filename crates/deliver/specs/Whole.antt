@@ -1,5 +1,7 @@
 -- Frame 11 as a whole, in place: refused by its first questions, the packet missing, or found and brought to where it goes.
-use Rattle.lists.specs.Basics.{◌≡◌, refl, sym, ap, ◌∙◌, Bool, cond, List, [], ◌∷◌, ⊎_elim, some, ℕ, ◌<◌, arith, eqb-true, leb-true, eqb, leb, length}
+use Rattle.std.specs.Prelude.{◌≡◌, refl, Bool, cond, List, [], ◌∷◌, ℕ, ◌<◌, eqb, leb, length}
+use Rattle.std.proofs.Common.{sym, ap, ◌∙◌, ⊎_elim, arith, eqb-true, leb-true}
+use Rattle.std.proofs.Math.Option.{some}
 use Rattle.lists.specs.{Tests.{either, and_r, and4, split, lt?}, Lists.{find, find_some, remove1}, Questions.{first_no, first_no_yes}}
 use Rattle.protocol.specs.{declared.Answer.Answer, declared.Answer.TheVariants.Refused, declared.Packet.Packet, declared.Content.TheVariants.Note as NOTE, Packets.{kind, is_named}}
 use Rattle.protocol.specs.{Frames.between, Questions.on_wire}

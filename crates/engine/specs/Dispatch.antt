@@ -1,5 +1,7 @@
 -- The frame that the reader answers decides the step: what its crate gives, and then what settles.
-use Rattle.lists.specs.Basics.{◌≡◌, refl, sym, ap, ◌∙◌, Bool, true, false, Option, some, none, ℕ}
+use Rattle.std.specs.Prelude.{◌≡◌, refl, Bool, true, false, ℕ}
+use Rattle.std.proofs.Common.{sym, ap, ◌∙◌}
+use Rattle.std.proofs.Math.Option.{Option, some, none}
 use Rattle.lists.specs.Questions.{put_all}
 use Rattle.protocol.specs.{declared.Rule.TheVariants.Other, declared.Answer.TheVariants.Refused, Parts.State, Frames.{Line, frame}}
 use Rattle.protocol.specs.{Job.begin, Sending.send, Working.next_entry, Checkpoint.checkpoint, Crash.has_cover, Restart.restart, Withdraw.withdraw}

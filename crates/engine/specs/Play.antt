@@ -1,5 +1,5 @@
 -- A frame judged, then machines that have caught up settle.
-use Rattle.lists.specs.Basics.{◌≡◌, refl, Bool, true, false, cond, List, [], ◌∷◌}
+use Rattle.std.specs.Prelude.{◌≡◌, refl, Bool, true, false, cond, List, [], ◌∷◌}
 use Rattle.lists.specs.Questions.{Question, ◌asks◌, put_all}
 use Rattle.protocol.specs.{declared.Answer.Answer, declared.Answer.TheVariants.{Accepted, Shown, Lost, Refused}, Parts.State, Restart.settle, Step.{Outcome, judged}}
 

@@ -1,5 +1,6 @@
 -- A frame acted in place, then settled: the definitions' step.
-use Rattle.lists.specs.Basics.{◌≡◌, sym, ap, ◌∙◌, true, false, List, ℕ}
+use Rattle.std.specs.Prelude.{◌≡◌, true, false, List, ℕ}
+use Rattle.std.proofs.Common.{sym, ap, ◌∙◌}
 use Rattle.lists.specs.Tests.{true_not_false}
 use Rattle.protocol.specs.{declared.Answer.Answer, Restart.settle, Frames.{Line, frame}, Step.step}
 use Rattle.frames.specs.{Read.read_as, declared.Frame.Frame}

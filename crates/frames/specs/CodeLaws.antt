@@ -1,6 +1,8 @@
 -- Judging by the sum: characters that are no digits make it too large.
-use Rattle.lists.specs.Basics.{Bool, true, false, ◌&&◌, and_assoc, [], ◌∷◌, ◌⊎◌, inl, inr, ◌≡◌, refl, ℕ, zero, suc, ◌+◌, ◌*◌, ◌<◌, ◌≤◌, ◌/◌, ◌%◌, arith}
-use Rattle.lists.specs.Basics.{length, get_or, List·getD-eq-default}
+use Rattle.std.specs.Prelude.{Bool, true, false, ◌&&◌, [], ◌∷◌, ◌⊎◌, ◌≡◌, refl, ℕ, zero, suc, ◌+◌, ◌*◌, ◌<◌, ◌≤◌, ◌/◌, ◌%◌, length, get_or}
+use Rattle.std.proofs.Common.{inl, inr, arith}
+use Rattle.std.proofs.Math.Bool.{and_assoc}
+use Rattle.std.proofs.Math.ListN.{get_or-eq_default as List·getD-eq-default}
 use Rattle.lists.specs.{Lists.allb, Tests.either}
 use Rattle.protocol.specs.Frames.{Line, between, digit}
 use Rattle.frames.specs.{Decode.{or_zero, is_some, digit_value, is_digit, pairs, decoded}, Codes.{no_digit, or_no_digit, digit_code, codes, total}, Range.between_true}

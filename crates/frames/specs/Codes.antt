@@ -1,5 +1,6 @@
 -- The characters of a line as the code has them: judged and decoded at once.
-use Rattle.lists.specs.Basics.{List, [], ◌∷◌, Option, some, none, ℕ, ◌+◌}
+use Rattle.std.specs.Prelude.{List, [], ◌∷◌, ℕ, ◌+◌}
+use Rattle.std.proofs.Math.Option.{Option, some, none}
 use Rattle.protocol.specs.Frames.{Line, digit}
 use Rattle.frames.specs.Decode.{pairs}
 

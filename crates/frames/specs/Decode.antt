@@ -1,5 +1,6 @@
 -- The bytes of a line, read digit by digit: a character that is no digit counts as 0, and a last odd one is left out.
-use Rattle.lists.specs.Basics.{Bool, true, false, ◌&&◌, List, [], ◌∷◌, Option, some, none, ℕ, ◌+◌, ◌*◌, ◌%◌, eqb, length}
+use Rattle.std.specs.Prelude.{Bool, true, false, ◌&&◌, List, [], ◌∷◌, ℕ, ◌+◌, ◌*◌, ◌%◌, eqb, length}
+use Rattle.std.proofs.Math.Option.{Option, some, none}
 use Rattle.lists.specs.Lists.{allb}
 use Rattle.protocol.specs.Frames.{Line, digit}
 

@@ -1,6 +1,9 @@
 -- The bytes of a line against those of the rule book: the same wherever the line is hexadecimal, and there are none elsewhere.
-use Rattle.lists.specs.Basics.{Bool, cond, ◌&&◌, and-false, List, [], ◌∷◌, Option, some, none, ◌≡◌, refl, ◌∙◌, ℕ, zero, suc, ◌+◌, ◌*◌, ◌<◌, ◌≤◌, ◌/◌, ◌%◌, arith, eqb, length}
-use Rattle.lists.specs.Basics.{get_or, List·getD-eq-default}
+use Rattle.std.specs.Prelude.{Bool, cond, ◌&&◌, List, [], ◌∷◌, ◌≡◌, refl, ℕ, zero, suc, ◌+◌, ◌*◌, ◌<◌, ◌≤◌, ◌/◌, ◌%◌, eqb, length, get_or}
+use Rattle.std.proofs.Common.{◌∙◌, arith}
+use Rattle.std.proofs.Math.Bool.{and-false}
+use Rattle.std.proofs.Math.ListN.{get_or-eq_default as List·getD-eq-default}
+use Rattle.std.proofs.Math.Option.{Option, some, none}
 use Rattle.lists.specs.{Lists.allb, Tests.either}
 use Rattle.protocol.specs.Frames.{Line, digit, pair, bytes}
 use Rattle.frames.specs.Decode.{or_zero, is_some, digit_value, is_digit, pairs, decoded, is_hexadecimal}

@@ -1,6 +1,7 @@
 -- A line by its kind's two characters, and by the sum of those behind them.
-use Rattle.lists.specs.Basics.{false, and-false, and_assoc, List, [], ◌∷◌, ◌⊎◌, inl, inr, ◌≡◌, ℕ, zero, suc, ◌+◌, ◌*◌, ◌<◌, ◌≤◌, ◌%◌, ◌/◌, arith, eq-eqb, eqb}
-use Rattle.lists.specs.Basics.{length, get_or, drop, drop_of_length-le, drop-cons}
+use Rattle.std.specs.Prelude.{false, List, [], ◌∷◌, ◌⊎◌, ◌≡◌, ℕ, zero, suc, ◌+◌, ◌*◌, ◌<◌, ◌≤◌, ◌%◌, ◌/◌, eqb, length, get_or, drop}
+use Rattle.std.proofs.Common.{inl, inr, arith, eq-eqb, drop_of_length-le, drop-cons}
+use Rattle.std.proofs.Math.Bool.{and-false, and_assoc}
 use Rattle.lists.specs.Lists.{allb}
 use Rattle.protocol.specs.Frames.{Line, parts}
 use Rattle.frames.specs.{Decode.{is_digit, pairs, decoded, is_hexadecimal}, DecodeLaws.length_pairs, Codes.{no_digit, digit_code, codes, total}}

@@ -1,5 +1,7 @@
 -- No frame has more than 1,023 bytes: a line of more than 2,046 characters is refused with 1.
-use Rattle.lists.specs.Basics.{true, not, ◌&&◌, inl, inr, List, [], ◌∷◌, none, ◌≡◌, refl, sym, ap, ◌∙◌, ℕ, zero, suc, ◌<◌, ◌≤◌, ◌%◌, arith, leb-true, eqb-true, eqb, leb, length, get_or, take, length-take, take_all}
+use Rattle.std.specs.Prelude.{true, not, ◌&&◌, List, [], ◌∷◌, ◌≡◌, refl, ℕ, zero, suc, ◌<◌, ◌≤◌, ◌%◌, eqb, leb, length, get_or, take}
+use Rattle.std.proofs.Common.{inl, inr, sym, ap, ◌∙◌, arith, leb-true, eqb-true, length-take, take_all}
+use Rattle.std.proofs.Math.Option.{none}
 use Rattle.lists.specs.{Lists.allb, Tests.{either, lt?, and_l, and_r}}
 use Rattle.protocol.specs.{declared.Answer.TheVariants.Refused, Parts.State}
 use Rattle.protocol.specs.{Frames.{Line, least, least_length, exact_length, is_whole, frame_of, frame}, Step.{step, step_frame}}

@@ -1,5 +1,8 @@
 -- A number in a range, or outside.
-use Rattle.lists.specs.Basics.{true, false, and-false, ◌≡◌, ℕ, ◌<◌, ◌≤◌, leb-true, lt-leb, leb}
+use Rattle.std.specs.Prelude.{true, false, ◌≡◌, ℕ, ◌<◌, ◌≤◌, leb}
+use Rattle.std.proofs.Common.{leb-true}
+use Rattle.std.proofs.Math.Bool.{and-false}
+use Rattle.std.proofs.lemmas.Bool.{lt-leb}
 use Rattle.lists.specs.Tests.{and_l, and_r}
 use Rattle.protocol.specs.Frames.{between}
 

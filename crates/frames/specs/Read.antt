@@ -1,5 +1,6 @@
 -- A frame as the code has it.
-use Rattle.lists.specs.Basics.{cond, ◌&&◌, Option, some, none, ◌≡◌, ℕ, ◌+◌, ◌*◌, ◌≤◌, ◌/◌, eqb, length, get_or, drop}
+use Rattle.std.specs.Prelude.{cond, ◌&&◌, ◌≡◌, ℕ, ◌+◌, ◌*◌, ◌≤◌, ◌/◌, eqb, length, get_or, drop}
+use Rattle.std.proofs.Math.Option.{Option, some, none}
 use Rattle.protocol.specs.Frames.{Line, least_length, parts, job, inject, deliver, work, checkpoint, crash, restart, show, withdraw}
 use Rattle.frames.specs.{Decode.{decoded, is_hexadecimal}, declared.Frame.TheVariants.{Garbled, Job, Inject, Deliver, Work, Checkpoint, Crash, Restart, Show, Withdraw}}
 use Rattle.frames.specs.declared.Frame.{Frame}

@@ -1,6 +1,9 @@
 -- From the digits of a line to its frame.
-use Rattle.lists.specs.Basics.{Bool, true, false, cond, not, ◌&&◌, and-true, and-false, [], ◌∷◌, ⊎_elim, inl, inr, Option, none, ◌≡◌, refl, ◌∙◌, ℕ, ◌+◌, ◌*◌, ◌<◌, ◌≤◌, ◌/◌, ◌%◌}
-use Rattle.lists.specs.Basics.{arith, le-leb, eq-eqb, ne_eqb, eqb-true, eqb, leb, length, get_or, drop, List·getD-eq-default}
+use Rattle.std.specs.Prelude.{Bool, true, false, cond, not, ◌&&◌, [], ◌∷◌, ◌≡◌, refl, ℕ, ◌+◌, ◌*◌, ◌<◌, ◌≤◌, ◌/◌, ◌%◌, eqb, leb, length, get_or, drop}
+use Rattle.std.proofs.Common.{⊎_elim, inl, inr, ◌∙◌, arith, le-leb, eq-eqb, ne_eqb, eqb-true}
+use Rattle.std.proofs.Math.Bool.{and-true, and-false}
+use Rattle.std.proofs.Math.ListN.{get_or-eq_default as List·getD-eq-default}
+use Rattle.std.proofs.Math.Option.{Option, none}
 use Rattle.lists.specs.Tests.{either, eq?}
 use Rattle.protocol.specs.Frames.{Line, bytes, least, least_length, exact_length, is_whole, parts, frame, frame_of}
 use Rattle.frames.specs.{Decode.{decoded, is_hexadecimal}, DecodeLaws.{length_decoded, bytes_decoded}, Codes.codes, CodeLaws.coded_at, KindLaws.kind_judged}

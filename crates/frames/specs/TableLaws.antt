@@ -1,5 +1,6 @@
 -- The table of least lengths, checked entry by entry.
-use Rattle.lists.specs.Basics.{Bool, true, ◌&&◌, ◌||◌, ⊎_elim, ◌≡◌, refl, ℕ, zero, suc, ◌<◌, ◌≤◌, arith, leb-true, ltb-true, eqb-true, ne_eqb, eqb, leb, ltb}
+use Rattle.std.specs.Prelude.{Bool, true, ◌&&◌, ◌||◌, ◌≡◌, refl, ℕ, zero, suc, ◌<◌, ◌≤◌, eqb, leb, ltb}
+use Rattle.std.proofs.Common.{⊎_elim, arith, leb-true, ltb-true, eqb-true, ne_eqb}
 use Rattle.lists.specs.Tests.{eq?, and_l, and_r}
 use Rattle.protocol.specs.Frames.{least, least_length}
 use Rattle.frames.specs.Read.{Sized}

@@ -1,6 +1,7 @@
 -- What an array of a job's numbers says at an index.
-use Rattle.lists.specs.Basics.{List, inl, inr, ◌≡◌, sym, ◌∙◌, ℕ, ◌+◌, ◌<◌, ◌≤◌, min, arith, eqb-true, ne_eqb, eqb, length, get_or, set, replicate}
-use Rattle.lists.specs.Basics.{List·getD-eq-default, get_or-set_same, get_or-set_other}
+use Rattle.std.specs.Prelude.{List, ◌≡◌, ℕ, ◌+◌, ◌<◌, ◌≤◌, min, eqb, length, get_or, set, replicate}
+use Rattle.std.proofs.Common.{inl, inr, sym, ◌∙◌, arith, eqb-true, ne_eqb, get_or-set_same, get_or-set_other}
+use Rattle.std.proofs.Math.ListN.{get_or-eq_default as List·getD-eq-default}
 use Rattle.lists.specs.Tests.{either, eq?, lt?}
 use Rattle.arrays.specs.ArrayMap.{as_map}
 use Rattle.words.specs.Zeros.{zero_at}

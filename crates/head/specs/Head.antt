@@ -1,6 +1,6 @@
 -- The head of the store: job, statuses, copies held, targets, one word each. Any contents count: a number out of range counts as the
 -- largest in range.
-use Rattle.lists.specs.Basics.{Bool, cond, not, ◌||◌, List, [], ◌∷◌, ℕ, ◌+◌, min, eqb, get_or}
+use Rattle.std.specs.Prelude.{Bool, cond, not, ◌||◌, List, [], ◌∷◌, ℕ, ◌+◌, min, eqb, get_or}
 use Rattle.lists.specs.Questions.{Question, ◌asks◌}
 use Rattle.arrays.specs.ArrayMap.{as_map}
 use Rattle.protocol.specs.{declared.Status.Status, declared.Status.TheVariants.{Up, Down, CatchingUp}, Frames.between, Parts.{Job, is_down}}

@@ -1,6 +1,7 @@
 -- What holds of every head, and what the branches of the code find.
-use Rattle.lists.specs.Basics.{not, List, ◌≡◌, refl, sym, fun_ext, ◌∙◌, ℕ, ◌+◌, ◌<◌, ◌≤◌, min, arith, add-one, eqb-true, eqb, length, get_or, set, take, take-suc}
-use Rattle.lists.specs.Basics.{take-suc-set, take_all}
+use Rattle.std.specs.Prelude.{not, List, ◌≡◌, refl, ℕ, ◌+◌, ◌<◌, ◌≤◌, min, eqb, length, get_or, set, take}
+use Rattle.std.proofs.Common.{sym, ◌∙◌, arith, add-one, eqb-true, take-suc, take-suc-set, take_all}
+use Rattle.std.proofs.Math.Path.{fun_ext}
 use Rattle.lists.specs.Tests.{either}
 use Rattle.arrays.specs.ArrayMap.{as_map, map_beyond}
 use Rattle.protocol.specs.Parts.{Job, is_down}

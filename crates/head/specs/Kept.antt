@@ -1,5 +1,7 @@
 -- A head is what its first words say: the store changed behind them, put anew there, or cut off after them.
-use Rattle.lists.specs.Basics.{Bool, List, [], ◌∷◌, ◌≡◌, refl, sym, ap, fun_ext, ◌∙◌, ℕ, zero, suc, ◌+◌, ◌≤◌, arith, length, take-take}
+use Rattle.std.specs.Prelude.{Bool, List, [], ◌∷◌, ◌≡◌, refl, ℕ, zero, suc, ◌+◌, ◌≤◌, length}
+use Rattle.std.proofs.Common.{sym, ap, ◌∙◌, arith, take-take}
+use Rattle.std.proofs.Math.Path.{fun_ext}
 use Rattle.protocol.specs.{declared.Status.Status, Parts.Job}
 use Rattle.words.specs.Part.{part, put, part_put, part_before}
 use Rattle.head.specs.Head.{HEAD, BUDDY, STATUS, HELD, HOME, FIRST, SECOND, TARGET, job_of, lost_of, status_of, held_of, target_of}

@@ -1,5 +1,7 @@
 -- One word of a head set: the part that has it says so, the others say what they said.
-use Rattle.lists.specs.Basics.{List, [], ◌∷◌, ◌≡◌, refl, ap, fun_ext, ◌∙◌, Bool, ℕ, ◌+◌, ◌<◌, ◌≤◌, arith, eqb, length, set}
+use Rattle.std.specs.Prelude.{List, [], ◌∷◌, ◌≡◌, refl, Bool, ℕ, ◌+◌, ◌<◌, ◌≤◌, eqb, length, set}
+use Rattle.std.proofs.Common.{ap, ◌∙◌, arith}
+use Rattle.std.proofs.Math.Path.{fun_ext}
 use Rattle.lists.specs.{Tests.either, Map.upd}
 use Rattle.arrays.specs.ArrayMap.{as_map, map_set}
 use Rattle.protocol.specs.declared.Status.{Status}

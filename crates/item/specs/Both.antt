@@ -1,5 +1,7 @@
 -- A row read in two ways at once: every bit of each word, and what its item means.
-use Rattle.lists.specs.Basics.{◌≡◌, refl, sym, ap, ◌∙◌, Bool, List, [], ◌∷◌, map, ℕ, ◌≤◌, ◌<◌, length, get_or, set, length-map}
+use Rattle.std.specs.Prelude.{◌≡◌, refl, Bool, List, [], ◌∷◌, map, ℕ, ◌≤◌, ◌<◌, length, get_or, set}
+use Rattle.std.proofs.Common.{sym, ap, ◌∙◌}
+use Rattle.std.proofs.lemmas.List.{length-map}
 use Rattle.lists.specs.{Tests.either, Lists.{keep, keep_map, change1}}
 use Rattle.arrays.specs.Place.{place}
 use Rattle.words.specs.{Rows.row, Becomes.{Becomes, becomes_as, becomes_same, becomes_mapped}, Mapped.{change_at, change_no}, Sift.map_same}

@@ -1,6 +1,8 @@
 -- What a row of words holds, one thing a word: f says what a word means.
-use Rattle.lists.specs.Basics.{◌≡◌, ◌∙◌, Bool, false, List, [], ◌∷◌, map, ℕ, ◌+◌, ◌-◌, ◌≤◌, ◌<◌, arith, add-one, length, get_or, drop}
-use Rattle.lists.specs.Basics.{length-map, List·getD-map, drop_of_length-le, drop-cons}
+use Rattle.std.specs.Prelude.{◌≡◌, Bool, false, List, [], ◌∷◌, map, ℕ, ◌+◌, ◌-◌, ◌≤◌, ◌<◌, length, get_or, drop}
+use Rattle.std.proofs.Common.{◌∙◌, arith, add-one, drop_of_length-le, drop-cons}
+use Rattle.std.proofs.Math.ListN.{get_or-map as List·getD-map}
+use Rattle.std.proofs.lemmas.List.{length-map}
 use Rattle.lists.specs.Lists.{anyb}
 use Rattle.arrays.specs.{Front.push, Place.place}
 use Rattle.words.specs.{Rows.{row, row_length, row_at}, Becomes.{Becomes, becomes_mapped}, Mapped.map_push}

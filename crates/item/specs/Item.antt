@@ -1,5 +1,7 @@
 -- A word as an item, and an item as a word. A field is what stands above its place value, modulo the number of its values.
-use Rattle.lists.specs.Basics.{◌≡◌, ◌&&◌, List, map, ℕ, ◌+◌, ◌*◌, ◌/◌, ◌%◌, ◌<◌, arith, eqb-true, eqb-false, eq-eqb, ne_eqb, eqb}
+use Rattle.std.specs.Prelude.{◌≡◌, ◌&&◌, List, map, ℕ, ◌+◌, ◌*◌, ◌/◌, ◌%◌, ◌<◌, eqb}
+use Rattle.std.proofs.Common.{arith, eqb-true, eq-eqb, ne_eqb}
+use Rattle.std.proofs.lemmas.Bool.{eqb-false}
 use Rattle.lists.specs.Tests.{either}
 use Rattle.words.specs.{Fields.{low, field}, Rows.{PEER, OWNER, row, named}}
 use Rattle.item.specs.declared.Item.{Item}

@@ -1,5 +1,7 @@
 -- No number of a job in range is above its bound.
-use Rattle.lists.specs.Basics.{true, List, ◌≡◌, ℕ, ◌≤◌, arith, le-leb, leb-true, eqb-false, eqb, leb}
+use Rattle.std.specs.Prelude.{true, List, ◌≡◌, ℕ, ◌≤◌, eqb, leb}
+use Rattle.std.proofs.Common.{arith, le-leb, leb-true}
+use Rattle.std.proofs.lemmas.Bool.{eqb-false}
 use Rattle.lists.specs.{Lists.{allb, keep, allb_true, mem_keep}, Tests.{either, and_l, and4}}
 use Rattle.protocol.specs.Job.{machines_of, chares_of, buddy_byte, chare_byte, buddy_in_range, chare_in_range, job_in_range, job_of, has_machine, has_chare, previous_machine}
 use Rattle.protocol.specs.{Frames.between, Parts.every_machine}

@@ -1,5 +1,5 @@
 -- The numbers of a job's line: which are in range, and those of a chare.
-use Rattle.lists.specs.Basics.{Bool, cond, not, ◌||◌, List, ℕ, leb}
+use Rattle.std.specs.Prelude.{Bool, cond, not, ◌||◌, List, ℕ, leb}
 use Rattle.lists.specs.Lists.{allb, keep}
 use Rattle.protocol.specs.{Job.{machines_of, chares_of, buddy_in_range, chare_in_range, has_chare, chare_byte}, Parts.{every_machine, every_chare}}
 

@@ -1,5 +1,6 @@
 -- Where the first line of an input ends.
-use Rattle.lists.specs.Basics.{◌≡◌, refl, ap, List, [], ◌∷◌, ℕ, zero, suc, ◌+◌, ◌≤◌, ◌<◌, add-one, arith, eq-eqb, ne_eqb, eqb, length, take, drop, get_or, drop_of_length-le, drop-cons}
+use Rattle.std.specs.Prelude.{◌≡◌, refl, List, [], ◌∷◌, ℕ, zero, suc, ◌+◌, ◌≤◌, ◌<◌, eqb, length, take, drop, get_or}
+use Rattle.std.proofs.Common.{ap, add-one, arith, eq-eqb, ne_eqb, drop_of_length-le, drop-cons}
 use Rattle.lists.specs.Tests.{either}
 use Rattle.arrays.specs.Place.{place, place_le}
 use Rattle.protocol.specs.{Frames.Line, Lines.{newline, extend, lines}}

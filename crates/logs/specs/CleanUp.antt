@@ -1,5 +1,7 @@
 -- The clean-up of a log at a checkpoint: its test, against the rule book's and by the limits in hand.
-use Rattle.lists.specs.Basics.{◌≡◌, refl, fun_ext, true, cond, ℕ, ◌≤◌, ◌<◌, arith, le-ltb, lt-ltb, eqb}
+use Rattle.std.specs.Prelude.{◌≡◌, refl, true, cond, ℕ, ◌≤◌, ◌<◌, eqb}
+use Rattle.std.proofs.Common.{arith, le-ltb, lt-ltb}
+use Rattle.std.proofs.Math.Path.{fun_ext}
 use Rattle.lists.specs.Tests.{either}
 use Rattle.protocol.specs.{declared.Logged.Logged, Parts.{State, on}, Checkpoint.stays_in_log}
 use Rattle.logs.specs.Log.{is_kept}

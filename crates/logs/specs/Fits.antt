@@ -1,6 +1,9 @@
 -- A word as a message: its name, and what of it fits a word again: chares below 16, hops below 8, other numbers below 65536. A log has at
 -- most as many messages as there is room.
-use Rattle.lists.specs.Basics.{◌≡◌, refl, List, Option, some, none, ℕ, ◌-◌, ◌<◌, ◌≤◌, arith, mod-eq_of_lt, eqb, length, get_or, List·getD-map}
+use Rattle.std.specs.Prelude.{◌≡◌, refl, List, ℕ, ◌-◌, ◌<◌, ◌≤◌, eqb, length, get_or}
+use Rattle.std.proofs.Common.{arith, mod-eq_of_lt}
+use Rattle.std.proofs.Math.ListN.{get_or-map as List·getD-map}
+use Rattle.std.proofs.Math.Option.{Option, some, none}
 use Rattle.lists.specs.{Tests.either, Lists.find}
 use Rattle.protocol.specs.{declared.Message.Message, declared.Logged.Logged, declared.Lookup.TheVariants.Unticketed, Packets.{for_receiver, looked_up, lookup, set_tn}}
 use Rattle.words.specs.{Rows.{row, named}, Mapped.find_holds}

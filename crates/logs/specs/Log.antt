@@ -1,5 +1,5 @@
 -- A logged message as an item of a row: the peer is the receiver, the owner the sender. A log is a row of them.
-use Rattle.lists.specs.Basics.{◌≡◌, Bool, not, ◌&&◌, List, map, ℕ, ◌%◌, eqb, ltb}
+use Rattle.std.specs.Prelude.{◌≡◌, Bool, not, ◌&&◌, List, map, ℕ, ◌%◌, eqb, ltb}
 use Rattle.protocol.specs.declared.Logged.{Logged}
 use Rattle.item.specs.{declared.Item.Item, Item.item_of}
 use Rattle.words.specs.Rows.{row}

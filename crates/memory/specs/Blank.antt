@@ -1,5 +1,6 @@
 -- A memory whose words are all 0, and one that is not there, are blank.
-use Rattle.lists.specs.Basics.{◌≡◌, ap, ◌∙◌, false, List, [], ℕ}
+use Rattle.std.specs.Prelude.{◌≡◌, false, List, [], ℕ}
+use Rattle.std.proofs.Common.{ap, ◌∙◌}
 use Rattle.arrays.specs.ArrayMap.{as_map, map_blank}
 use Rattle.protocol.specs.Parts.{blank}
 use Rattle.window.specs.{Bits.window_bits, BitLaws.no_bits}

@@ -1,7 +1,8 @@
 -- The words of a memory that a work or a send writes: state, height, a mark, a window, an SN count.
-use Rattle.std.proofs.Common.{set-set}
-use Rattle.std.proofs.lemmas.List.{set_comm, set-get_or}
-use Rattle.lists.specs.Basics.{◌≡◌, ap, fun_ext, ◌∙◌, Bool, List, [], ◌∷◌, map, ℕ, ◌+◌, ◌%◌, ◌≤◌, ◌<◌, arith, mod-eq_of_lt, eqb, length, get_or, set, length-map, length-set}
+use Rattle.std.proofs.Common.{set-set, ap, ◌∙◌, arith, mod-eq_of_lt, length-set}
+use Rattle.std.proofs.lemmas.List.{set_comm, set-get_or, length-map}
+use Rattle.std.specs.Prelude.{◌≡◌, Bool, List, [], ◌∷◌, map, ℕ, ◌+◌, ◌%◌, ◌≤◌, ◌<◌, eqb, length, get_or, set}
+use Rattle.std.proofs.Math.Path.{fun_ext}
 use Rattle.lists.specs.{Tests.either, Map.upd}
 use Rattle.arrays.specs.ArrayMap.{as_map}
 use Rattle.protocol.specs.Parts.{Memory}

@@ -1,5 +1,5 @@
 -- Where the parts of a memory begin: the constants of src/, under the same names.
-use Rattle.lists.specs.Basics.{ℕ, ◌+◌}
+use Rattle.std.specs.Prelude.{ℕ, ◌+◌}
 
 abbrev pub STATE : ℕ
 STATE = 0

@@ -1,6 +1,9 @@
 -- A chare's memory as words: state, height, top, 16 SN counts, 16 marks, the low and the high words of 16 windows, the table and
 -- the log. A peer of an item is one of 16, so each has a mark.
-use Rattle.lists.specs.Basics.{◌≡◌, refl, sym, ap, ◌∙◌, List, map, ℕ, ◌+◌, ◌%◌, ◌≤◌, ◌<◌, arith, length, get_or, length-map, List·getD-map}
+use Rattle.std.specs.Prelude.{◌≡◌, refl, List, map, ℕ, ◌+◌, ◌%◌, ◌≤◌, ◌<◌, length, get_or}
+use Rattle.std.proofs.Common.{sym, ap, ◌∙◌, arith}
+use Rattle.std.proofs.Math.ListN.{get_or-map as List·getD-map}
+use Rattle.std.proofs.lemmas.List.{length-map}
 use Rattle.arrays.specs.ArrayMap.{as_map, map_beyond}
 use Rattle.protocol.specs.{declared.Entry.Entry, declared.Logged.Logged, Window.Bits, Parts.Memory, Setters.{with_table, with_log}}
 use Rattle.window.specs.Bits.{window_bits}

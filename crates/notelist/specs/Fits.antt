@@ -1,5 +1,7 @@
 -- What a note list holds fits a word: chares below 16, SN and TN below 65536.
-use Rattle.lists.specs.Basics.{◌≡◌, List, ℕ, ◌<◌, arith, mod-eq_of_lt, get_or, List·getD-map}
+use Rattle.std.specs.Prelude.{◌≡◌, List, ℕ, ◌<◌, get_or}
+use Rattle.std.proofs.Common.{arith, mod-eq_of_lt}
+use Rattle.std.proofs.Math.ListN.{get_or-map as List·getD-map}
 use Rattle.protocol.specs.declared.Note.{Note}
 use Rattle.words.specs.Rows.{row}
 use Rattle.item.specs.Item.{item_of}

@@ -1,6 +1,6 @@
 -- A note as an item of a row: as of a packet, the peer is the receiver and the owner the sender. A note list is a row of them, in the order
 -- of arrival.
-use Rattle.lists.specs.Basics.{◌≡◌, List, map, ℕ, ◌%◌}
+use Rattle.std.specs.Prelude.{◌≡◌, List, map, ℕ, ◌%◌}
 use Rattle.protocol.specs.declared.Note.{Note}
 use Rattle.item.specs.{declared.Item.Item, Item.item_of}
 use Rattle.words.specs.Rows.{row}

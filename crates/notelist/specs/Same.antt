@@ -1,5 +1,6 @@
 -- When a word is a note: its lowest fields, SN, receiver and sender, in one number, and its TN.
-use Rattle.lists.specs.Basics.{◌≡◌, sym, true, false, List, ℕ, ◌+◌, ◌*◌, ◌/◌, ◌%◌, ◌<◌, arith, eqb-true, eq-eqb, eqb}
+use Rattle.std.specs.Prelude.{◌≡◌, true, false, List, ℕ, ◌+◌, ◌*◌, ◌/◌, ◌%◌, ◌<◌, eqb}
+use Rattle.std.proofs.Common.{sym, arith, eqb-true, eq-eqb}
 use Rattle.lists.specs.Tests.{either, and4}
 use Rattle.arrays.specs.Place.{none_there}
 use Rattle.protocol.specs.{declared.Note.Note, Packets.{same_note, has_note}}

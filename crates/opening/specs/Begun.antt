@@ -1,5 +1,7 @@
 -- A job begun in place.
-use Rattle.lists.specs.Basics.{◌≡◌, ap, ◌∙◌, true, List, ℕ, get_or, replicate, length-replicate}
+use Rattle.std.specs.Prelude.{◌≡◌, true, List, ℕ, get_or, replicate}
+use Rattle.std.proofs.Common.{ap, ◌∙◌}
+use Rattle.std.proofs.lemmas.List.{length-replicate}
 use Rattle.protocol.specs.{Job.{chares_of, job_in_range, has_chare, new_memory, first_memory, begin}, Parts.{blank, start}}
 use Rattle.words.specs.{Part.put, Zeros.zeros}
 use Rattle.head.specs.Head.{HEAD}

@@ -1,5 +1,7 @@
 -- A written head says the line's job, if its numbers are in range.
-use Rattle.lists.specs.Basics.{◌≡◌, refl, fun_ext, true, false, List, ⊎_elim, ℕ, ◌+◌, ◌≤◌, arith, length}
+use Rattle.std.specs.Prelude.{◌≡◌, refl, true, false, List, ℕ, ◌+◌, ◌≤◌, length}
+use Rattle.std.proofs.Common.{⊎_elim, arith}
+use Rattle.std.proofs.Math.Path.{fun_ext}
 use Rattle.lists.specs.Tests.{lt?}
 use Rattle.arrays.specs.ArrayMap.{as_map, map_beyond}
 use Rattle.protocol.specs.{declared.Status.TheVariants.Up, Frames.between, Job.{machines_of, chares_of, job_in_range, job_of, has_machine, has_chare}}

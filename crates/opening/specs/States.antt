@@ -1,5 +1,6 @@
 -- Chares start with their numbers as states, one after the other.
-use Rattle.lists.specs.Basics.{◌≡◌, refl, sym, ap, ◌∙◌, cond, List, [], ◌∷◌, ℕ, ◌+◌, ◌-◌, ◌<◌, ◌≤◌, arith, mod-eq_of_lt, length, set}
+use Rattle.std.specs.Prelude.{◌≡◌, refl, cond, List, [], ◌∷◌, ℕ, ◌+◌, ◌-◌, ◌<◌, ◌≤◌, length, set}
+use Rattle.std.proofs.Common.{sym, ap, ◌∙◌, arith, mod-eq_of_lt}
 use Rattle.lists.specs.Map.{upd}
 use Rattle.protocol.specs.{Parts.{Memory, State}, Setters.with_memory, Frames.between}
 use Rattle.protocol.proofs.{Recovery.Frames.Job.true_between}

@@ -1,5 +1,6 @@
 -- What a job's line writes into the head.
-use Rattle.lists.specs.Basics.{◌≡◌, ◌∙◌, cond, List, [], ◌∷◌, ℕ, ◌+◌, ◌-◌, ◌≤◌, arith, leb-true, eqb, length, get_or, set}
+use Rattle.std.specs.Prelude.{◌≡◌, cond, List, [], ◌∷◌, ℕ, ◌+◌, ◌-◌, ◌≤◌, eqb, length, get_or, set}
+use Rattle.std.proofs.Common.{◌∙◌, arith, leb-true}
 use Rattle.protocol.specs.Job.{job_of, has_machine}
 use Rattle.jobline.specs.Passes.{number_of}
 use Rattle.words.specs.{Fields.bit, Part.{part, put, part_length, part_put, part_before, part_behind}, Zeros.zeros}

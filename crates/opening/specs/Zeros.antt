@@ -1,5 +1,6 @@
 -- A store of zeros is the state before any job. Its parts have their places as numerals, so that they compute.
-use Rattle.lists.specs.Basics.{◌≡◌, false, [], ℕ, ◌+◌, ◌*◌, ◌≤◌, arith, ltb-true, ltb, eqb, replicate}
+use Rattle.std.specs.Prelude.{◌≡◌, false, [], ℕ, ◌+◌, ◌*◌, ◌≤◌, ltb, eqb, replicate}
+use Rattle.std.proofs.Common.{arith, ltb-true}
 use Rattle.lists.specs.Tests.{either}
 use Rattle.arrays.specs.ArrayMap.{as_map}
 use Rattle.protocol.specs.Parts.{blank, start, no_job}

@@ -1,5 +1,6 @@
 -- What a wire can hold: its room, and the range of every field of a packet on it.
-use Rattle.lists.specs.Basics.{Bool, List, ◌≡◌, refl, sym, ℕ, ◌-◌, ◌<◌, ◌≤◌, arith, mod-eq_of_lt, eqb, length}
+use Rattle.std.specs.Prelude.{Bool, List, ◌≡◌, refl, ℕ, ◌-◌, ◌<◌, ◌≤◌, eqb, length}
+use Rattle.std.proofs.Common.{sym, arith, mod-eq_of_lt}
 use Rattle.protocol.specs.{declared.Content.Content, declared.Packet.Packet}
 use Rattle.words.specs.{Rows.row, Mapped.find_holds}
 use Rattle.item.specs.{Item.item_of, Held.held_fit}

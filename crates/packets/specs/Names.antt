@@ -1,5 +1,8 @@
 -- The name of a word's packet: the kind that its kind field shows, and all that stands below it.
-use Rattle.lists.specs.Basics.{Bool, false, ◌&&◌, List, ◌≡◌, refl, sym, ℕ, ◌+◌, ◌*◌, ◌/◌, ◌%◌, ◌<◌, ◌≤◌, arith, eqb-true, eqb-false, eq-eqb, ne_eqb, eqb, and-true}
+use Rattle.std.specs.Prelude.{Bool, false, ◌&&◌, List, ◌≡◌, refl, ℕ, ◌+◌, ◌*◌, ◌/◌, ◌%◌, ◌<◌, ◌≤◌, eqb}
+use Rattle.std.proofs.Common.{sym, arith, eqb-true, eq-eqb, ne_eqb}
+use Rattle.std.proofs.Math.Bool.{and-true}
+use Rattle.std.proofs.lemmas.Bool.{eqb-false}
 use Rattle.lists.specs.Tests.{either, and4}
 use Rattle.arrays.specs.Place.{not_found}
 use Rattle.protocol.specs.Packets.{kind, is_named}

@@ -1,5 +1,5 @@
 -- A packet made a word, bit by bit: a field that its content does not have is 0.
-use Rattle.lists.specs.Basics.{◌≡◌, refl, ℕ}
+use Rattle.std.specs.Prelude.{◌≡◌, refl, ℕ}
 use Rattle.protocol.specs.{declared.Content.Content, declared.Content.TheVariants.{Ask, GrantOld, GrantReceived, GrantNew, Data, Note, Ack}, declared.Packet.Packet}
 use Rattle.item.specs.{declared.Item.Item, Item.{item_of, clipped}}
 use Rattle.packets.specs.Words.{granted, carried, content_of, as_packet, unpacked, fit_content, fitted}

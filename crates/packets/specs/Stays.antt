@@ -1,5 +1,5 @@
 -- The packets that stay on the wire at a crash of machine p, and at its restart; those that a sift keeps.
-use Rattle.lists.specs.Basics.{Bool, true, false, cond, not, ◌&&◌, ◌||◌, ◌≡◌, ℕ, eqb}
+use Rattle.std.specs.Prelude.{Bool, true, false, cond, not, ◌&&◌, ◌||◌, ◌≡◌, ℕ, eqb}
 use Rattle.protocol.specs.{declared.Packet.Packet, Crash.survives, Packets.{kind, destination, goes_to, is_named}, Parts.{Job, on}}
 use Rattle.item.specs.{declared.Item.Item, Item.item_of}
 use Rattle.packets.specs.{Words.{as_packet, unpacked}, declared.Leaving.Leaving, declared.Leaving.TheVariants.{Crash, Restart, Named}}

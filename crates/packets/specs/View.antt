@@ -1,5 +1,7 @@
 -- What is found on a wire, and the wire without it.
-use Rattle.lists.specs.Basics.{Bool, List, Option, some, none, ◌≡◌, refl, ap, ◌∙◌, ℕ, ◌<◌, ◌≤◌, arith, length, get_or}
+use Rattle.std.specs.Prelude.{Bool, List, ◌≡◌, refl, ℕ, ◌<◌, ◌≤◌, length, get_or}
+use Rattle.std.proofs.Common.{ap, ◌∙◌, arith}
+use Rattle.std.proofs.Math.Option.{Option, some, none}
 use Rattle.lists.specs.Lists.{find, remove1}
 use Rattle.arrays.specs.Place.{place, remove_there}
 use Rattle.protocol.specs.declared.Packet.{Packet}

@@ -1,5 +1,5 @@
 -- A packet as an item of a row: the peer is the receiver, the owner the sender, the kind as in a frame. Of a GRANT the flags say which.
-use Rattle.lists.specs.Basics.{Bool, true, false, cond, List, map, ℕ, ◌%◌, eqb}
+use Rattle.std.specs.Prelude.{Bool, true, false, cond, List, map, ℕ, ◌%◌, eqb}
 use Rattle.protocol.specs.{declared.Content.Content, declared.Content.TheVariants.{Ask, GrantOld, GrantReceived, GrantNew, Data, Note, Ack}, declared.Packet.Packet}
 use Rattle.item.specs.{declared.Item.Item, Item.item_of}
 use Rattle.words.specs.Rows.{row}

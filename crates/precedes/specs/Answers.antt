@@ -1,5 +1,8 @@
 -- From what was found and marked to the right answer.
-use Rattle.lists.specs.Basics.{◌≡◌, sym, ap, ◌∙◌, Bool, true, false, ◌&&◌, not, List, ◌⊎◌, inl, inr, ℕ, suc, ◌-◌, ◌<◌, ◌≤◌, arith, length, take-length, replicate, eqb, eq-eqb, ne_eqb, and-false}
+use Rattle.std.specs.Prelude.{◌≡◌, Bool, true, false, ◌&&◌, not, List, ◌⊎◌, ℕ, suc, ◌-◌, ◌<◌, ◌≤◌, length, replicate, eqb}
+use Rattle.std.proofs.Common.{sym, ap, ◌∙◌, inl, inr, arith, eq-eqb, ne_eqb}
+use Rattle.std.proofs.Math.Bool.{and-false}
+use Rattle.std.proofs.Math.Seq.{take-length}
 use Rattle.lists.specs.Tests.{and_i, true_not_false}
 use Rattle.precedes.specs.{declared.Processing.Processing, declared.Answer.TheVariants.{Unknown, Yes, No}, Precedes.{Name, stands, bad_place, Right}}
 use Rattle.precedes.specs.{Rows.{Is, good_room}, Chains.{chain_forward, reach_chain, chain_reach}, Visits.{Marked, Whole, Visited}}

@@ -1,5 +1,7 @@
 -- The proved cases of document 02, Point 12: one table, one theorem.
-use Rattle.lists.specs.Basics.{◌≡◌, refl, List, [], ◌∷◌, here, there, ℕ, arith}
+use Rattle.std.specs.Prelude.{◌≡◌, refl, List, [], ◌∷◌, ℕ}
+use Rattle.std.proofs.Common.{arith}
+use mathlib.Core.List.Memᴰ.{head as here, tail as there}
 use Rattle.precedes.specs.{declared.Processing.Processing, declared.Answer.TheVariants.{Bad, Unknown, Yes, No}}
 use Rattle.precedes.specs.Precedes.{name, origin, named, stands, count, in_range, sender_known, tn_next, has_room, good, first_bad, bad_place, on_chare, through_sender, through, Right}
 use Rattle.lists.specs.Lists.{anyb, keep}

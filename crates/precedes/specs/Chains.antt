@@ -1,5 +1,7 @@
 -- A chain between two records exists exactly where links lead from the one back to the other.
-use Rattle.lists.specs.Basics.{◌≡◌, refl, sym, ap, ◌∙◌, true, List, [], ◌∷◌, ◌⊎◌, inl, inr, here, there, ℕ, zero, suc, ◌+◌, ◌-◌, ◌<◌, ◌≤◌, arith, length, get_or}
+use Rattle.std.specs.Prelude.{◌≡◌, refl, true, List, [], ◌∷◌, ◌⊎◌, ℕ, zero, suc, ◌+◌, ◌-◌, ◌<◌, ◌≤◌, length, get_or}
+use Rattle.std.proofs.Common.{sym, ap, ◌∙◌, inl, inr, arith}
+use mathlib.Core.List.Memᴰ.{head as here, tail as there}
 use Rattle.lists.specs.{Tests.{eq?, lt?}, Lists.{◌∈◌}}
 use Rattle.precedes.specs.{declared.Processing.Processing, Precedes.{Name, name, origin, stands, Chain, on_chare, through_sender, through}}
 use Rattle.precedes.specs.Rows.{rec, Is, Good, at_stands, stands_at, good_tn, good_chare, good_sender, is_low, low_is, once, above}

@@ -1,6 +1,7 @@
 -- What readers of the answers may expect of them: there is one right answer; what a chain joins stands in the row's order, so nothing
 -- precedes itself; which record is the first bad one.
-use Rattle.lists.specs.Basics.{◌≡◌, refl, sym, ap, ◌∙◌, false, List, inl, inr, ℕ, zero, suc, ◌+◌, ◌<◌, ◌≤◌, arith, length, take, drop}
+use Rattle.std.specs.Prelude.{◌≡◌, refl, false, List, ℕ, zero, suc, ◌+◌, ◌<◌, ◌≤◌, length, take, drop}
+use Rattle.std.proofs.Common.{sym, ap, ◌∙◌, inl, inr, arith}
 use Rattle.lists.specs.Tests.{either, eq?, true_not_false}
 use Rattle.precedes.specs.{declared.Processing.Processing, declared.Answer.Answer, declared.Answer.TheVariants.{Bad, Unknown, Yes, No}}
 use Rattle.precedes.specs.Precedes.{Name, name, origin, good, first_bad, bad_place, Chain, on_chare, through_sender, through, Right}

@@ -1,6 +1,8 @@
 -- Reading a row record by record: where each name stands, and the links of each record.
-use Rattle.lists.specs.Basics.{◌≡◌, Bool, true, false, cond, ◌&&◌, ◌||◌, not, List, inl, inr, ℕ, ◌+◌, ◌-◌, ◌*◌, ◌<◌, ◌≤◌, arith}
-use Rattle.lists.specs.Basics.{and-false, eqb, leb, eq-eqb, ne_eqb, leb-true, le-leb, lt-leb, lt-ltb, length, take, get_or, set, get_or-set_same, get_or-set_other, length-take-le}
+use Rattle.std.specs.Prelude.{◌≡◌, Bool, true, false, cond, ◌&&◌, ◌||◌, not, List, ℕ, ◌+◌, ◌-◌, ◌*◌, ◌<◌, ◌≤◌, eqb, leb, length, take, get_or, set}
+use Rattle.std.proofs.Common.{inl, inr, arith, eq-eqb, ne_eqb, leb-true, le-leb, lt-ltb, get_or-set_same, get_or-set_other, length-take-le}
+use Rattle.std.proofs.Math.Bool.{and-false}
+use Rattle.std.proofs.lemmas.Bool.{lt-leb}
 use Rattle.lists.specs.Tests.{either, eq?, lt?, and_l, and_r, and_i}
 use Rattle.precedes.specs.{declared.Processing.Processing, Precedes.{Name, name, origin, stands, count, in_range, sender_known, tn_next, has_room, good}}
 use Rattle.precedes.specs.Rows.{rec, Good, stands_before, before_stands, is_low, low_is}

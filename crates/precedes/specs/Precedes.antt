@@ -1,5 +1,5 @@
 -- Document 02, Point 12: "What came before what."
-use Rattle.lists.specs.Basics.{◌≡◌, Bool, true, false, cond, ◌&&◌, List, [], ◌∷◌, ◌++◌, ℕ, ◌+◌, ◌<◌, eqb, leb, ltb, length}
+use Rattle.std.specs.Prelude.{◌≡◌, Bool, true, false, cond, ◌&&◌, List, [], ◌∷◌, ◌++◌, ℕ, ◌+◌, ◌<◌, eqb, leb, ltb, length}
 use Rattle.lists.specs.Lists.{◌∈◌, anyb, keep}
 use Rattle.precedes.specs.{declared.Processing.Processing, declared.Answer.Answer, declared.Answer.TheVariants.{Bad, Unknown, Yes, No}}
 

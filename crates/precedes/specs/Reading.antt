@@ -1,6 +1,8 @@
 -- The first i records of a row were read, and all are good.
-use Rattle.lists.specs.Basics.{◌≡◌, refl, sym, ap, ◌∙◌, true, false, List, inl, inr, ℕ, suc, ◌+◌, ◌-◌, ◌<◌, ◌≤◌, arith}
-use Rattle.lists.specs.Basics.{cond, eqb, eq-eqb, ne_eqb, le-ltb, length, take, drop, get_or, set, replicate, take-suc, drop-cons, drop-length, length-set, get_or-set_same, get_or-set_other, length-replicate, length-take-le}
+use Rattle.std.specs.Prelude.{◌≡◌, refl, true, false, List, ℕ, suc, ◌+◌, ◌-◌, ◌<◌, ◌≤◌, cond, eqb, length, take, drop, get_or, set, replicate}
+use Rattle.std.proofs.Common.{sym, ap, ◌∙◌, inl, inr, arith, eq-eqb, ne_eqb, le-ltb, take-suc, drop-cons, length-set, get_or-set_same, get_or-set_other, length-take-le}
+use Rattle.std.proofs.Math.Seq.{drop-length}
+use Rattle.std.proofs.lemmas.List.{length-replicate}
 use Rattle.lists.specs.Tests.{either, eq?, lt?}
 use Rattle.arrays.specs.ArrayMap.{as_map, map_blank}
 use Rattle.precedes.specs.{declared.Processing.Processing, Precedes.{Name, name, origin, has_room, good, first_bad, bad_place}}

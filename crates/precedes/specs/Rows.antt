@@ -1,6 +1,6 @@
 -- What the rules give where the first n records of a row are good: a chare's processings stand in the order of their TNs, each once.
-use Rattle.lists.specs.Basics.{◌≡◌, refl, sym, ◌∙◌, true, cond, List, [], ◌∷◌, ◌⊎◌, inl, inr, ℕ, zero, suc, ◌+◌, ◌-◌, ◌<◌, ◌≤◌, arith}
-use Rattle.lists.specs.Basics.{eqb, leb, eqb-true, eq-eqb, ne_eqb, leb-true, ltb-true, length, take, get_or, take-suc, get_or-take, length-take-le, length-append}
+use Rattle.std.specs.Prelude.{◌≡◌, refl, true, cond, List, [], ◌∷◌, ◌⊎◌, ℕ, zero, suc, ◌+◌, ◌-◌, ◌<◌, ◌≤◌, eqb, leb, length, take, get_or}
+use Rattle.std.proofs.Common.{sym, ◌∙◌, inl, inr, arith, eqb-true, eq-eqb, ne_eqb, leb-true, ltb-true, take-suc, get_or-take, length-take-le, length-append}
 use Rattle.lists.specs.{Tests.{either, eq?, lt?, and_l, and_r, and_i, and4, or_cases, or_l, or_r, true_not_false}, Lists.{anyb, keep, keep_append}}
 use Rattle.precedes.specs.{declared.Processing.Processing, Precedes.{Name, origin, named, stands, count, in_range, sender_known, tn_next, has_room, good}}
 

@@ -1,5 +1,7 @@
 -- The loop that reads a table: the first i records of its row were read, and all are good.
-use Rattle.lists.specs.Basics.{◌≡◌, refl, sym, ap, ◌∙◌, true, false, List, ℕ, suc, ◌+◌, ◌<◌, ◌≤◌, min, arith, length, take, drop, get_or, set, add-one, length-replicate}
+use Rattle.std.specs.Prelude.{◌≡◌, refl, true, false, List, ℕ, suc, ◌+◌, ◌<◌, ◌≤◌, min, length, take, drop, get_or, set}
+use Rattle.std.proofs.Common.{sym, ap, ◌∙◌, arith, add-one}
+use Rattle.std.proofs.lemmas.List.{length-replicate}
 use Rattle.precedes.specs.{declared.Processing.Processing, declared.Table.Table, Precedes.{name, origin, good, first_bad, bad_place}, Rows.{nobody, rec}, Chains.previous}
 use Rattle.precedes.specs.{Tables.{held, held_length, held_record}, Links.{SLOTS, tabled, slot, found, admits, admits_right}}
 use Rattle.precedes.specs.Reading.{Reading, read_to, read_all, read_some, zeros, reading_none, reading_more, the_tabled, bad_start, bad_none, bad_next, bad_here, bad_past}

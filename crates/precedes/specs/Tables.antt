@@ -1,6 +1,9 @@
 -- A lent row as the table that it is loaded into: the first 512 records, and whether there are more.
-use Rattle.lists.specs.Basics.{◌≡◌, refl, sym, ap, ◌∙◌, cond, List, [], ◌∷◌, ◌++◌, inl, inr, ℕ, zero, suc, ◌+◌, ◌-◌, ◌<◌, ◌≤◌, min, arith}
-use Rattle.lists.specs.Basics.{ltb, lt-ltb, le-ltb, length, take, get_or, set, replicate, length-set, length-append, append-nil, append_assoc, length-replicate, add-one, take-suc-set, take_all, take-append-le, take-length, length-take-le, get_or-take, List·getD-append, length-take}
+use Rattle.std.specs.Prelude.{◌≡◌, refl, cond, List, [], ◌∷◌, ◌++◌, ℕ, zero, suc, ◌+◌, ◌-◌, ◌<◌, ◌≤◌, min, ltb, length, take, get_or, set, replicate}
+use Rattle.std.proofs.Common.{sym, ap, ◌∙◌, inl, inr, arith, lt-ltb, le-ltb, length-set, length-append, append-nil, append_assoc, add-one, take-suc-set, take_all, length-take-le, get_or-take, length-take}
+use Rattle.std.proofs.Math.ListN.{get_or-append as List·getD-append}
+use Rattle.std.proofs.Math.Seq.{take-length}
+use Rattle.std.proofs.lemmas.List.{length-replicate, take-append-le}
 use Rattle.lists.specs.Tests.{either, lt?}
 use Rattle.precedes.specs.{declared.Processing.Processing, declared.Table.Table, declared.Answer.Answer, declared.Answer.TheVariants.{Bad, Unknown, Yes, No}, Precedes.{Name, has_room, good, first_bad, bad_place, Right}}
 use Rattle.precedes.specs.{Rows.{nobody, rec}}

@@ -1,5 +1,6 @@
 -- What a visit of a record marks: itself, and all that links lead back to.
-use Rattle.lists.specs.Basics.{◌≡◌, sym, ◌∙◌, Bool, true, false, List, ◌⊎◌, inl, inr, ℕ, suc, ◌-◌, ◌<◌, ◌≤◌, arith, length, get_or, set, get_or-set_same, get_or-set_other}
+use Rattle.std.specs.Prelude.{◌≡◌, Bool, true, false, List, ◌⊎◌, ℕ, suc, ◌-◌, ◌<◌, ◌≤◌, length, get_or, set}
+use Rattle.std.proofs.Common.{sym, ◌∙◌, inl, inr, arith, get_or-set_same, get_or-set_other}
 use Rattle.lists.specs.Tests.{eq?}
 use Rattle.precedes.specs.Chains.{Reach, itself, by_before, by_sender, reach_on}
 

@@ -1,5 +1,6 @@
 -- A table as it is built in an empty row: three walks that enter tickets, each from the table that the one before left, then the messages that fill.
-use Rattle.lists.specs.Basics.{◌≡◌, refl, sym, ◌∙◌, Bool, true, false, List, [], ℕ, ◌+◌, ◌<◌, arith, leb, length, set}
+use Rattle.std.specs.Prelude.{◌≡◌, refl, Bool, true, false, List, [], ℕ, ◌+◌, ◌<◌, leb, length, set}
+use Rattle.std.proofs.Common.{sym, ◌∙◌, arith}
 use Rattle.lists.specs.Lists.{gather}
 use Rattle.protocol.specs.{declared.Entry.Entry, Parts.{State, every_sender, every_chare}, Restart.{enter, restored_table, filled_table, local_log}}
 use Rattle.protocol.proofs.Recovery.Laws.Filled.{length_filled_table}

@@ -1,5 +1,5 @@
 -- Restored log messages to local chares fill their entries: message by message, log by log.
-use Rattle.lists.specs.Basics.{◌≡◌, refl, List, [], ◌∷◌, ◌++◌, ℕ}
+use Rattle.std.specs.Prelude.{◌≡◌, refl, List, [], ◌∷◌, ◌++◌, ℕ}
 use Rattle.lists.specs.Lists.{keep, keep_append}
 use Rattle.protocol.specs.{declared.Entry.Entry, declared.Logged.Logged, Tickets.filled, Restart.{fill_all, is_ticketed_above}}
 

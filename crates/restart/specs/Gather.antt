@@ -1,5 +1,6 @@
 -- A filtered and mapped list, and one of lists joined, as one walk through what they are made from.
-use Rattle.lists.specs.Basics.{◌≡◌, refl, sym, ap, ◌∙◌, Bool, cond, List, [], ◌∷◌, ◌++◌, map, append_assoc, ℕ, ◌+◌, ◌<◌, add-one, length, drop, get_or, drop-cons}
+use Rattle.std.specs.Prelude.{◌≡◌, refl, Bool, cond, List, [], ◌∷◌, ◌++◌, map, ℕ, ◌+◌, ◌<◌, length, drop, get_or}
+use Rattle.std.proofs.Common.{sym, ap, ◌∙◌, append_assoc, add-one, drop-cons}
 use Rattle.lists.specs.{Tests.either, Lists.{keep, gather}}
 
 module _ {A B : Type 0} where

@@ -1,5 +1,7 @@
 -- The chares of p take what they get back; the others stay. Their tables stand in rows, one a chare.
-use Rattle.lists.specs.Basics.{◌≡◌, refl, ◌∙◌, fun_ext, Bool, true, false, not, ◌||◌, List, ⊎_elim, ℕ, ◌+◌, ◌-◌, ◌*◌, ◌<◌, ◌≤◌, arith, leb, length}
+use Rattle.std.specs.Prelude.{◌≡◌, refl, Bool, true, false, not, ◌||◌, List, ℕ, ◌+◌, ◌-◌, ◌*◌, ◌<◌, ◌≤◌, leb, length}
+use Rattle.std.proofs.Common.{◌∙◌, ⊎_elim, arith}
+use Rattle.std.proofs.Math.Path.{fun_ext}
 use Rattle.lists.specs.{Tests.{either, true_not_false, lt?}, Lists.allb}
 use Rattle.protocol.specs.{declared.Entry.Entry, Parts.{State, Memory, on, at_home, every_chare}, Setters.{with_live, with_status}, Restart.{filled_table, target_of}}
 use Rattle.protocol.specs.Questions.{tables_fit}

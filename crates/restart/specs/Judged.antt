@@ -1,5 +1,6 @@
 -- A restart judged: the questions in order.
-use Rattle.lists.specs.Basics.{◌≡◌, refl, sym, ap, ◌∙◌, not, List, [], ◌∷◌, ◌≢◌, ℕ}
+use Rattle.std.specs.Prelude.{◌≡◌, refl, not, List, [], ◌∷◌, ◌≢◌, ℕ}
+use Rattle.std.proofs.Common.{sym, ap, ◌∙◌}
 use Rattle.lists.specs.Questions.{Question, ◌asks◌, put_all, put_no, put_after, first_no, first_no_yes}
 use Rattle.protocol.specs.{declared.Rule.TheVariants.Other, declared.Answer.TheVariants.Refused, Parts.{State, is_down}, Restart.restart}
 use Rattle.protocol.specs.{Questions.{restart_questions, is_machine, tables_fit, wire_fits}, Step.{Outcome, judged}}

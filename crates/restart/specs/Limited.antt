@@ -1,6 +1,8 @@
 -- A list that grows step by step, held while it has at most K elements: past that nothing is left, whatever follows.
-use Rattle.lists.specs.Basics.{◌≡◌, refl, sym, ◌∙◌, Bool, true, false, cond, List, [], ◌∷◌, ◌++◌, Option, some, none, ℕ, ◌≤◌, arith, le-leb, lt-leb, leb-true, leb-false, leb}
-use Rattle.lists.specs.Basics.{length}
+use Rattle.std.specs.Prelude.{◌≡◌, refl, Bool, true, false, cond, List, [], ◌∷◌, ◌++◌, ℕ, ◌≤◌, leb, length}
+use Rattle.std.proofs.Common.{sym, ◌∙◌, arith, le-leb, leb-true, leb-false}
+use Rattle.std.proofs.Math.Option.{Option, some, none}
+use Rattle.std.proofs.lemmas.Bool.{lt-leb}
 use Rattle.lists.specs.{Tests.{either, true_not_false}, Lists.gather}
 
 module _ {A : Type 0} where

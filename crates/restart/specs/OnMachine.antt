@@ -1,5 +1,6 @@
 -- Only chares 1 to 12 are on a machine.
-use Rattle.lists.specs.Basics.{◌≡◌, sym, ◌∙◌, Bool, true, ⊎_elim, List, ℕ, ◌<◌, ◌≤◌, arith, eqb-true, length}
+use Rattle.std.specs.Prelude.{◌≡◌, Bool, true, List, ℕ, ◌<◌, ◌≤◌, length}
+use Rattle.std.proofs.Common.{sym, ◌∙◌, ⊎_elim, arith, eqb-true}
 use Rattle.lists.specs.Tests.{lt?}
 use Rattle.protocol.specs.Parts.{on}
 use Rattle.head.specs.{Head.{HEAD, job_of}, HeadLaws.{home_desk, home_beyond}}

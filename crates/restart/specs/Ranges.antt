@@ -1,5 +1,6 @@
 -- The numbers from k up to e, e itself left out: what a loop that counts has still to go through.
-use Rattle.lists.specs.Basics.{◌≡◌, List, [], ◌∷◌, ℕ, zero, suc, ◌+◌, ◌-◌, ◌≤◌, ◌<◌, arith, add-one}
+use Rattle.std.specs.Prelude.{◌≡◌, List, [], ◌∷◌, ℕ, zero, suc, ◌+◌, ◌-◌, ◌≤◌, ◌<◌}
+use Rattle.std.proofs.Common.{arith, add-one}
 
 unfoldable pub count_from : ℕ → ℕ → List ℕ
 count_from zero k = []

@@ -1,6 +1,8 @@
 -- The messages sent again at a restart. What is restored is the copy with another table and top, so heights and logs of the chares on p are
 -- those of the copies.
-use Rattle.lists.specs.Basics.{◌≡◌, ap, fun_ext, Bool, true, false, cond, List, [], ◌∷◌, map, ℕ, mod-eq_of_lt, eqb, ltb}
+use Rattle.std.specs.Prelude.{◌≡◌, Bool, true, false, cond, List, [], ◌∷◌, map, ℕ, eqb, ltb}
+use Rattle.std.proofs.Common.{ap, mod-eq_of_lt}
+use Rattle.std.proofs.Math.Path.{fun_ext}
 use Rattle.lists.specs.{Tests.either, Lists.{gather, sort}}
 use Rattle.protocol.specs.{declared.Content.TheVariants.{Ask as ASK, Data as DATA}, declared.Logged.Logged, declared.Message.Message}
 use Rattle.protocol.specs.{declared.Packet.Packet, Parts.{State, on, at_home, every_sender}, Sending.about}

@@ -1,5 +1,6 @@
 -- What a chare has after the restart: its copy, with another table and the top of that.
-use Rattle.lists.specs.Basics.{◌≡◌, sym, ◌∙◌, List, ℕ, ◌+◌, ◌-◌, ◌<◌, ◌≤◌, arith, mod-eq_of_lt, length, set, get_or-set_same, get_or-set_other}
+use Rattle.std.specs.Prelude.{◌≡◌, List, ℕ, ◌+◌, ◌-◌, ◌<◌, ◌≤◌, length, set}
+use Rattle.std.proofs.Common.{sym, ◌∙◌, arith, mod-eq_of_lt, get_or-set_same, get_or-set_other}
 use Rattle.lists.specs.Map.{upd}
 use Rattle.protocol.specs.{declared.Entry.Entry, Parts.{Memory, State}, Setters.{with_table, with_highest_at_restart, with_live, with_status}, Tickets.highest, Restart.target_of}
 use Rattle.words.specs.{Part.{part, put, part_length, part_put, put_length, put_again}, PartSet.{part_set, part_set_before}}

@@ -1,6 +1,8 @@
 -- Packets put on a wire of 128 one by one, where there was room for them all.
-use Rattle.lists.specs.Basics.{◌≡◌, sym, ap, ◌∙◌, Bool, true, false, List, [], ◌∷◌, ◌++◌, append_assoc, append-nil, map, Option, ℕ, ◌<◌, ◌≤◌, arith, le-leb, lt-leb}
-use Rattle.lists.specs.Basics.{length, length-append}
+use Rattle.std.specs.Prelude.{◌≡◌, Bool, true, false, List, [], ◌∷◌, ◌++◌, map, ℕ, ◌<◌, ◌≤◌, length}
+use Rattle.std.proofs.Common.{sym, ap, ◌∙◌, append_assoc, append-nil, arith, le-leb, length-append}
+use Rattle.std.proofs.Math.Option.{Option}
+use Rattle.std.proofs.lemmas.Bool.{lt-leb}
 use Rattle.arrays.specs.Front.{push, push_fits}
 use Rattle.protocol.specs.{declared.Logged.Logged, declared.Packet.Packet, Parts.State}
 use Rattle.logs.specs.Fits.{Fits}

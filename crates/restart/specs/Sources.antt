@@ -1,6 +1,7 @@
 -- What a chare of p gets back is made from: its copy, the logs of other machines and the desk's, the notes kept for p. Each is gone through
 -- once, and each element has a ticket or none.
-use Rattle.lists.specs.Basics.{◌≡◌, sym, List, [], ◌∷◌, ◌++◌, ℕ}
+use Rattle.std.specs.Prelude.{◌≡◌, List, [], ◌∷◌, ◌++◌, ℕ}
+use Rattle.std.proofs.Common.{sym}
 use Rattle.lists.specs.Lists.{gather}
 use Rattle.protocol.specs.{declared.Entry.Entry, declared.Logged.Logged, declared.Note.Note, Parts.{State, every_sender}}
 use Rattle.protocol.specs.Restart.{known_tickets, other_log, ticket_of_entry, ticket_of_logged, ticket_of_note, is_ticketed_above, is_note_above}

@@ -1,5 +1,6 @@
 -- Logs, tables and heights of a store's view, by the places that they stand at.
-use Rattle.lists.specs.Basics.{◌≡◌, refl, ap, ◌∙◌, List, ℕ, ◌+◌, ◌-◌, ◌≤◌, ◌<◌, arith, take, drop, drop-drop}
+use Rattle.std.specs.Prelude.{◌≡◌, refl, List, ℕ, ◌+◌, ◌-◌, ◌≤◌, ◌<◌, take, drop}
+use Rattle.std.proofs.Common.{ap, ◌∙◌, arith, drop-drop}
 use Rattle.words.specs.Part.{part}
 use Rattle.head.specs.{Head.job_of, Kept.part_front}
 use Rattle.notelist.specs.Notes.{notes}

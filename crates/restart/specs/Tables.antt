@@ -1,5 +1,7 @@
 -- Tickets entered one by one into a table of 16, where there was room for them all.
-use Rattle.lists.specs.Basics.{◌≡◌, refl, Bool, true, List, [], ◌∷◌, Option, ℕ, ◌-◌, ◌%◌, ◌<◌, ◌≤◌, arith, mod-eq_of_lt, length, length-append}
+use Rattle.std.specs.Prelude.{◌≡◌, refl, Bool, true, List, [], ◌∷◌, ℕ, ◌-◌, ◌%◌, ◌<◌, ◌≤◌, length}
+use Rattle.std.proofs.Common.{arith, mod-eq_of_lt, length-append}
+use Rattle.std.proofs.Math.Option.{Option}
 use Rattle.lists.specs.{Tests.either, Lists.anyb}
 use Rattle.protocol.specs.{declared.Entry.Entry, Tickets.{for_message, unreceived}, Restart.{enter, enter_all}}
 use Rattle.memory.specs.Places.{ROW}

@@ -1,5 +1,7 @@
 -- A restart put together: the tables in rows, the wire beside the store, and the store changed by both.
-use Rattle.lists.specs.Basics.{◌≡◌, refl, sym, ◌∙◌, fun_ext, Bool, true, false, not, List, ◌≢◌, ℕ, ◌≤◌, arith, eqb, length}
+use Rattle.std.specs.Prelude.{◌≡◌, refl, Bool, true, false, not, List, ◌≢◌, ℕ, ◌≤◌, eqb, length}
+use Rattle.std.proofs.Common.{sym, ◌∙◌, arith}
+use Rattle.std.proofs.Math.Path.{fun_ext}
 use Rattle.lists.specs.{Tests.either, Lists.{keep, gather}, Map.upd, Questions.{put_all, first_no}}
 use Rattle.protocol.specs.{declared.Rule.TheVariants.Other, declared.Answer.TheVariants.{Accepted, Refused}, declared.Packet.Packet, declared.Status.TheVariants.CatchingUp}
 use Rattle.protocol.specs.{Parts.{State, on, at_home, every_sender, is_down}, Setters.{with_status, with_live, with_wire}, Packets.goes_to}

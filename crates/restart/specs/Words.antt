@@ -1,5 +1,7 @@
 -- A table every word of which is an entry packed, so that no bit stands beside what its entry says. What a restart builds is one.
-use Rattle.lists.specs.Basics.{◌≡◌, refl, sym, ap, ◌∙◌, Bool, List, [], ◌∷◌, map, ℕ, ◌-◌, ◌%◌, ◌<◌, arith, mod-eq_of_lt, ltb, length, set, inl, inr, here, there}
+use Rattle.std.specs.Prelude.{◌≡◌, refl, Bool, List, [], ◌∷◌, map, ℕ, ◌-◌, ◌%◌, ◌<◌, ltb, length, set}
+use Rattle.std.proofs.Common.{sym, ap, ◌∙◌, arith, mod-eq_of_lt, inl, inr}
+use mathlib.Core.List.Memᴰ.{head as here, tail as there}
 use Rattle.lists.specs.{Tests.either, Lists.{All, all_nil, all_snoc, anyb, change1, change1_mem}}
 use Rattle.arrays.specs.Front.{push}
 use Rattle.protocol.specs.{declared.Entry.Entry, Tickets.{for_message, unreceived}}

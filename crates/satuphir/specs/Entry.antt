@@ -1,5 +1,7 @@
 -- The counts that a caller in C gets, and what its buffer then holds.
-use Rattle.lists.specs.Basics.{true, false, cond, List, [], ◌++◌, ◌≡◌, sym, ap, ◌∙◌, ℕ, ◌≤◌, ◌<◌, leb, le-leb, lt-leb, length, drop}
+use Rattle.std.specs.Prelude.{true, false, cond, List, [], ◌++◌, ◌≡◌, ℕ, ◌≤◌, ◌<◌, leb, length, drop}
+use Rattle.std.proofs.Common.{sym, ap, ◌∙◌, le-leb}
+use Rattle.std.proofs.lemmas.Bool.{lt-leb}
 use Rattle.lists.specs.Tests.{either}
 use Rattle.transcript.specs.{Reading.Reading, View.{Ending, enough, whole_output, Transcribed}, declared.Ended.Ended}
 use Rattle.protocol.specs.Step.{answers}

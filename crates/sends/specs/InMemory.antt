@@ -1,5 +1,6 @@
 -- What a send leaves of a memory and of the wire, from what the functions on their rows answer.
-use Rattle.lists.specs.Basics.{◌≡◌, ◌∙◌, List, ℕ, ◌+◌, ◌-◌, ◌%◌, ◌<◌, arith, mod-eq_of_lt, length, set, length-set}
+use Rattle.std.specs.Prelude.{◌≡◌, List, ℕ, ◌+◌, ◌-◌, ◌%◌, ◌<◌, length, set}
+use Rattle.std.proofs.Common.{◌∙◌, arith, mod-eq_of_lt, length-set}
 use Rattle.arrays.specs.Front.{push}
 use Rattle.protocol.specs.{declared.Message.Message, declared.Content.Content, Setters.with_table, Sending.{about, local_entry}, Tickets.filled}
 use Rattle.words.specs.Part.{part, put, part_length}

@@ -1,5 +1,7 @@
 -- Frame 10: the desk's message. From 7 on its questions are those of one send.
-use Rattle.lists.specs.Basics.{◌≡◌, refl, sym, ◌∙◌, Bool, true, false, not, ◌&&◌, and-true, List, [], ◌∷◌, ◌++◌, ℕ, ◌<◌, arith, leb-true, leb}
+use Rattle.std.specs.Prelude.{◌≡◌, refl, Bool, true, false, not, ◌&&◌, List, [], ◌∷◌, ◌++◌, ℕ, ◌<◌, leb}
+use Rattle.std.proofs.Common.{sym, ◌∙◌, arith, leb-true}
+use Rattle.std.proofs.Math.Bool.{and-true}
 use Rattle.lists.specs.{Questions.{Question, ◌asks◌, first_no, first_no_yes}, Tests.{and_l, and_r}}
 use Rattle.protocol.specs.{declared.Rule.TheVariants.Other, declared.Answer.TheVariants.{Accepted, Refused}, Parts.State, Step.Outcome}
 use Rattle.protocol.specs.{Questions.{inject_questions, is_chare, put_to_all}, Sending.{send, send_all}}

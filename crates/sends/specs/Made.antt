@@ -1,5 +1,6 @@
 -- The sends of a chare, judged and made where the store stands.
-use Rattle.lists.specs.Basics.{◌≡◌, refl, sym, ap, ◌∙◌, List, [], ◌∷◌, ◌++◌, ℕ, ne_eqb, le-leb, length}
+use Rattle.std.specs.Prelude.{◌≡◌, refl, List, [], ◌∷◌, ◌++◌, ℕ, length}
+use Rattle.std.proofs.Common.{sym, ap, ◌∙◌, ne_eqb, le-leb}
 use Rattle.lists.specs.Questions.{Yes, yes_put, put_first, first_no, first_no_yes}
 use Rattle.protocol.specs.{declared.Rule.TheVariants.Other, declared.Answer.TheVariants.{Accepted, Refused}, Parts.{State, Job}, Sending.{send, send_all}, Work.{receivers, ports, port}}
 use Rattle.protocol.specs.{Questions.{put_to_all, wire_fits}, Step.judged}

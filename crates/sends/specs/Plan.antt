@@ -1,5 +1,6 @@
 -- What a send needs to know before it is made: its ticket, and what the questions 7, 8 and 10 say of it.
-use Rattle.lists.specs.Basics.{Bool, true, false, cond, ◌&&◌, List, Option, some, none, ℕ, ◌+◌, eqb, ltb, leb, length}
+use Rattle.std.specs.Prelude.{Bool, true, false, cond, ◌&&◌, List, ℕ, ◌+◌, eqb, ltb, leb, length}
+use Rattle.std.proofs.Math.Option.{Option, some, none}
 use Rattle.protocol.specs.{declared.Entry.Entry, declared.Seen.Seen, Parts.State, Window.admitted, Packets.seen, Tickets.{entry, next_tn}, Sending.is_local}
 use Rattle.sends.specs.{declared.ticket.Ticket.Ticket, declared.ticket.Ticket.TheVariants.{Remote, Found, New, TooHigh}}
 use Rattle.sends.specs.{declared.plan.Plan.Plan, Ticket.{is_new, tn_of, sn_next}}

@@ -1,5 +1,7 @@
 -- What a plan says: the definitions' answers on its send, and what the send does.
-use Rattle.lists.specs.Basics.{◌≡◌, refl, ◌∙◌, true, false, Option, some, none, ℕ, ◌+◌, arith, add-one, ltb, leb, length}
+use Rattle.std.specs.Prelude.{◌≡◌, refl, true, false, ℕ, ◌+◌, ltb, leb, length}
+use Rattle.std.proofs.Common.{◌∙◌, arith, add-one}
+use Rattle.std.proofs.Math.Option.{Option, some, none}
 use Rattle.lists.specs.{Tests.{either, true_not_false}, Map.upd_self}
 use Rattle.protocol.specs.{declared.Entry.Entry, Parts.State, Tickets.{entry, new_tn}, Packets.seen}
 use Rattle.protocol.specs.{Sending.{is_local, send, send_message, send_remote, send_local, put, log_message, next_message}}

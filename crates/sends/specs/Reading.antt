@@ -1,5 +1,6 @@
 -- What is read of a store: its head and the places of its memories, in the view's words, and how much its rows can hold.
-use Rattle.lists.specs.Basics.{◌≡◌, refl, ◌∙◌, Bool, List, ℕ, ◌<◌, ◌≤◌, arith, length}
+use Rattle.std.specs.Prelude.{◌≡◌, refl, Bool, List, ℕ, ◌<◌, ◌≤◌, length}
+use Rattle.std.proofs.Common.{◌∙◌, arith}
 use Rattle.protocol.specs.{Sending.is_local, Packets.seen}
 use Rattle.words.specs.Part.{part, part_length}
 use Rattle.head.specs.Head.{job_of}

@@ -1,5 +1,6 @@
 -- A send adds at most one, and where there is room it is added.
-use Rattle.lists.specs.Basics.{◌≡◌, refl, Bool, true, ◌&&◌, List, ◌+◌, ◌<◌, ◌≤◌, arith, length}
+use Rattle.std.specs.Prelude.{◌≡◌, refl, Bool, true, ◌&&◌, List, ◌+◌, ◌<◌, ◌≤◌, length}
+use Rattle.std.proofs.Common.{arith}
 use Rattle.lists.specs.Tests.{either}
 use Rattle.arrays.specs.Front.{push_fits}
 use Rattle.protocol.specs.{declared.Entry.Entry, declared.Message.Message, declared.Packet.Packet}

@@ -1,5 +1,6 @@
 -- The plan of a second send, after a first one.
-use Rattle.lists.specs.Basics.{◌≡◌, refl, ◌∙◌, Bool, true, inl, inr, [], ◌∷◌, ◌++◌, ℕ, ◌+◌, arith, eq-eqb, ne_eqb, length, length-append}
+use Rattle.std.specs.Prelude.{◌≡◌, refl, Bool, true, [], ◌∷◌, ◌++◌, ℕ, ◌+◌, length}
+use Rattle.std.proofs.Common.{◌∙◌, inl, inr, arith, eq-eqb, ne_eqb, length-append}
 use Rattle.lists.specs.{Tests.eq?, Map.{upd, upd_same, upd_other}}
 use Rattle.protocol.specs.{declared.Message.Message, Parts.{State, Memory}, Tickets.new_tn, Sending.{local_entry, is_local, send}, Packets.seen}
 use Rattle.protocol.proofs.{Recovery.Laws.Lookups.length_filled}

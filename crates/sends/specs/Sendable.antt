@@ -1,5 +1,6 @@
 -- Sends whose questions are answered "yes": there is room for the first of them, which is then made as the definitions say.
-use Rattle.lists.specs.Basics.{◌≡◌, sym, ◌∙◌, true, List, [], ◌∷◌, ℕ, ◌≤◌, arith, leb-true, ltb-true, length}
+use Rattle.std.specs.Prelude.{◌≡◌, true, List, [], ◌∷◌, ℕ, ◌≤◌, length}
+use Rattle.std.proofs.Common.{sym, ◌∙◌, arith, leb-true, ltb-true}
 use Rattle.lists.specs.{Tests.{and_l, and_r}, Questions.Yes}
 use Rattle.protocol.specs.{Parts.State, Sending.{send, send_all}, Questions.{numbers_fit, window_admits, log_has_room, table_has_room, wire_fits, put_to_all}}
 use Rattle.sends.specs.{Ticket.{fits, message_after}, Plan.plan_of, PlanLaws.judges, Sends.{sends_questions, first_wire}, Stored.{to_sent, room_sent}}

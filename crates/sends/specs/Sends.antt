@@ -1,6 +1,8 @@
 -- The questions 7 to 11 for none, one or two sends, by their plans.
-use Rattle.lists.specs.Basics.{◌≡◌, refl, subst, ◌∙◌, Bool, true, false, ◌&&◌, and-true, and-false, List, [], ◌∷◌, ℕ, ◌+◌, arith, add-one, length}
-use Rattle.lists.specs.Basics.{ltb-true, ltb-false, lt-leb, le-leb, lt-ltb, ltb, leb}
+use Rattle.std.specs.Prelude.{◌≡◌, refl, Bool, true, false, ◌&&◌, List, [], ◌∷◌, ℕ, ◌+◌, length, ltb, leb}
+use Rattle.std.proofs.Common.{subst, ◌∙◌, arith, add-one, ltb-true, ltb-false, le-leb, lt-ltb}
+use Rattle.std.proofs.Math.Bool.{and-true, and-false}
+use Rattle.std.proofs.lemmas.Bool.{lt-leb}
 use Rattle.lists.specs.{Tests.{either, and_l, and_r}, Questions.{Question, ◌asks◌, put_all, first_no}}
 use Rattle.protocol.specs.{declared.Rule.TheVariants.Other, Parts.State, Sending.{send, send_all}}
 use Rattle.protocol.specs.{Questions.{numbers_fit, window_admits, log_has_room, table_has_room, wire_fits, put_to_all}, Step.{Outcome, judged}}

@@ -1,5 +1,6 @@
 -- A message sent, by how it gets its ticket, and what that leaves: memories, counts, lengths.
-use Rattle.lists.specs.Basics.{◌≡◌, refl, ap, ◌∙◌, List, ℕ, ◌+◌, arith, length, length-append}
+use Rattle.std.specs.Prelude.{◌≡◌, refl, List, ℕ, ◌+◌, length}
+use Rattle.std.proofs.Common.{ap, ◌∙◌, arith, length-append}
 use Rattle.lists.specs.Map.{upd, upd_ind, upd_same}
 use Rattle.protocol.specs.{declared.Entry.Entry, declared.Message.Message, declared.Packet.Packet, Parts.{State, Memory}, Setters.{with_table, with_memory, with_wire}}
 use Rattle.head.specs.Sets.{over}

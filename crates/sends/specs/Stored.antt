@@ -1,5 +1,6 @@
 -- A message sent where the store stands: the receiver's memory, the sender's and the wire, one after the other.
-use Rattle.lists.specs.Basics.{◌≡◌, refl, true, ◌∙◌, List, ℕ, ◌+◌, ◌<◌, ◌≤◌, length}
+use Rattle.std.specs.Prelude.{◌≡◌, refl, true, List, ℕ, ◌+◌, ◌<◌, ◌≤◌, length}
+use Rattle.std.proofs.Common.{◌∙◌}
 use Rattle.arrays.specs.Front.{push_fits}
 use Rattle.protocol.specs.{declared.Message.Message, Parts.State, Setters.with_table}
 use Rattle.words.specs.Part.{part, put}

@@ -1,5 +1,5 @@
 -- How a message to be sent gets its ticket, and what the send changes.
-use Rattle.lists.specs.Basics.{Bool, true, false, cond, List, [], ◌∷◌, ◌++◌, ℕ, ◌+◌, ltb}
+use Rattle.std.specs.Prelude.{Bool, true, false, cond, List, [], ◌∷◌, ◌++◌, ℕ, ◌+◌, ltb}
 use Rattle.lists.specs.Map.{upd}
 use Rattle.arrays.specs.Front.{push}
 use Rattle.protocol.specs.{declared.Message.Message, declared.Entry.Entry, declared.Packet.Packet, declared.Logged.Logged}

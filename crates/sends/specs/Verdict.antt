@@ -1,5 +1,6 @@
 -- A frame by the number of the first question that is answered "no": its questions in two parts.
-use Rattle.lists.specs.Basics.{◌≡◌, true, ap, List, ◌++◌}
+use Rattle.std.specs.Prelude.{◌≡◌, true, List, ◌++◌}
+use Rattle.std.proofs.Common.{ap}
 use Rattle.lists.specs.Questions.{Question, numbered, put_all, first_no, first_no_yes, put_no, put_after}
 use Rattle.protocol.specs.{declared.Answer.TheVariants.Refused, Parts.State, Step.{Outcome, judged}}
 

@@ -1,5 +1,7 @@
 -- An entry worked where the store stands: the five words written, the sends made; or the five words written back.
-use Rattle.lists.specs.Basics.{◌≡◌, sym, ap, ◌∙◌, List, some, ℕ, ◌-◌, ◌+◌, ◌%◌, ◌<◌, ◌≤◌, arith, length}
+use Rattle.std.specs.Prelude.{◌≡◌, List, ℕ, ◌-◌, ◌+◌, ◌%◌, ◌<◌, ◌≤◌, length}
+use Rattle.std.proofs.Common.{sym, ap, ◌∙◌, arith}
+use Rattle.std.proofs.Math.Option.{some}
 use Rattle.lists.specs.Questions.{first_no}
 use Rattle.protocol.specs.{declared.Rule.TheVariants.Other, declared.Answer.TheVariants.{Accepted, Refused}, declared.Entry.Entry, Parts.Memory, Setters.with_memory, Work.{ports, receivers, sent_value}}
 use Rattle.protocol.specs.{Working.{work_entry, worked_only, receivers_of, value_out, hops_out}}

@@ -1,5 +1,7 @@
 -- Frame 12: the questions on the chare, the next entry, and the entry worked.
-use Rattle.lists.specs.Basics.{◌≡◌, refl, sym, ap, ◌∙◌, List, Option, some, none, ℕ, ◌<◌, arith}
+use Rattle.std.specs.Prelude.{◌≡◌, refl, List, ℕ, ◌<◌}
+use Rattle.std.proofs.Common.{sym, ap, ◌∙◌, arith}
+use Rattle.std.proofs.Math.Option.{Option, some, none}
 use Rattle.lists.specs.Questions.{put_all, first_no, first_no_yes}
 use Rattle.protocol.specs.{declared.Answer.Answer, declared.Answer.TheVariants.Refused, declared.Entry.Entry, Parts.up, Working.next_entry}
 use Rattle.protocol.specs.{Questions.{is_chare, work_questions, entry_questions}, Step.{Outcome, judged}}

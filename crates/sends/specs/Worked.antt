@@ -1,5 +1,7 @@
 -- An entry's message worked on the five words of a memory, and the first question that refuses it.
-use Rattle.lists.specs.Basics.{◌≡◌, refl, sym, ◌∙◌, true, false, ◌&&◌, List, [], ◌∷◌, ℕ, ◌+◌, ◌%◌, ◌<◌, ◌≤◌, arith, le-leb, lt-leb, leb}
+use Rattle.std.specs.Prelude.{◌≡◌, refl, true, false, ◌&&◌, List, [], ◌∷◌, ℕ, ◌+◌, ◌%◌, ◌<◌, ◌≤◌, leb}
+use Rattle.std.proofs.Common.{sym, ◌∙◌, arith, le-leb}
+use Rattle.std.proofs.lemmas.Bool.{lt-leb}
 use Rattle.lists.specs.Questions.{◌asks◌, first_no}
 use Rattle.protocol.specs.{declared.Entry.Entry, Parts.Memory, Work.work, Working.work_entry, Questions.mark_after}
 use Rattle.window.specs.{declared.Slid.Slid, Bits.{window_bits, TakenIn}}

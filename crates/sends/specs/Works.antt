@@ -1,5 +1,7 @@
 -- Frame 12: what working the next TN leaves, and its questions in three parts.
-use Rattle.lists.specs.Basics.{◌≡◌, refl, ap, ◌∙◌, Bool, true, false, ◌&&◌, List, [], ◌∷◌, ◌++◌, Option, some, none, ℕ, ◌+◌, leb}
+use Rattle.std.specs.Prelude.{◌≡◌, refl, Bool, true, false, ◌&&◌, List, [], ◌∷◌, ◌++◌, ℕ, ◌+◌, leb}
+use Rattle.std.proofs.Common.{ap, ◌∙◌}
+use Rattle.std.proofs.Math.Option.{Option, some, none}
 use Rattle.lists.specs.Questions.{Question, ◌asks◌, put_all, first_no}
 use Rattle.protocol.specs.{declared.Entry.Entry, declared.Rule.TheVariants.Other, declared.Answer.TheVariants.Refused, Working.{worked_only, work_next, value_out, hops_out, receivers_of}}
 use Rattle.protocol.specs.{Parts.{State, Memory}, Questions.{mark_after, entry_questions, put_to_sends}, Step.{Outcome, judged}}

@@ -1,5 +1,7 @@
 -- When machine p is done catching up: what the code finds, against the definitions.
-use Rattle.lists.specs.Basics.{◌≡◌, ◌∙◌, ap, Bool, false, not, ◌||◌, List, ℕ, ◌+◌, ◌<◌, ◌≤◌, arith, lt-leb, le-leb, take, drop, drop-drop}
+use Rattle.std.specs.Prelude.{◌≡◌, Bool, false, not, ◌||◌, List, ℕ, ◌+◌, ◌<◌, ◌≤◌, take, drop}
+use Rattle.std.proofs.Common.{◌∙◌, ap, arith, le-leb, drop-drop}
+use Rattle.std.proofs.lemmas.Bool.{lt-leb}
 use Rattle.lists.specs.Lists.{allb}
 use Rattle.protocol.specs.{Parts.{State, on}, Restart.has_caught_up}
 use Rattle.words.specs.Part.{part}

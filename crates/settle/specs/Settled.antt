@@ -1,5 +1,6 @@
 -- The machines settle, one after the other: those from p up to e, e itself left out, are still to settle.
-use Rattle.lists.specs.Basics.{◌≡◌, sym, ◌∙◌, ℕ, ◌+◌, ◌-◌, ◌<◌, ◌≤◌}
+use Rattle.std.specs.Prelude.{◌≡◌, ℕ, ◌+◌, ◌-◌, ◌<◌, ◌≤◌}
+use Rattle.std.proofs.Common.{sym, ◌∙◌}
 use Rattle.lists.specs.Counting.{counting, counting_next, counting_past}
 use Rattle.protocol.specs.{Parts.State, Restart.{settle_machine, settle_all, settle}}
 

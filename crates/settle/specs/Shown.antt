@@ -1,5 +1,6 @@
 -- What frame 16 leaves, before machines settle.
-use Rattle.lists.specs.Basics.{◌≡◌, refl, sym, ◌∙◌, ◌≢◌, List, ℕ, ◌<◌, arith}
+use Rattle.std.specs.Prelude.{◌≡◌, refl, ◌≢◌, List, ℕ, ◌<◌}
+use Rattle.std.proofs.Common.{sym, ◌∙◌, arith}
 use Rattle.lists.specs.Questions.{put_all, first_no, first_no_yes}
 use Rattle.protocol.specs.{declared.Answer.TheVariants.{Shown, Refused}, Parts.{State, up}, Questions.{show_questions, is_chare}, Step.{Outcome, judged}}
 use Rattle.frames.specs.Range.{between_true}

@@ -1,5 +1,7 @@
 -- A loop that goes through the indices of a map and changes each value: the map is the new one up to where the loop is.
-use Rattle.lists.specs.Basics.{◌≡◌, refl, sym, ap, ◌∙◌, fun_ext, true, inl, inr, ℕ, ◌+◌, ◌<◌, ◌≤◌, lt-ltb, le-ltb}
+use Rattle.std.specs.Prelude.{◌≡◌, refl, true, ℕ, ◌+◌, ◌<◌, ◌≤◌}
+use Rattle.std.proofs.Common.{sym, ap, ◌∙◌, inl, inr, lt-ltb, le-ltb}
+use Rattle.std.proofs.Math.Path.{fun_ext}
 use Rattle.lists.specs.{Tests.lt?, Map.upd}
 use Rattle.store.specs.Visits.{chosen, visited, visit_hit, visit_all}
 

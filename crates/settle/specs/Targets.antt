@@ -1,5 +1,6 @@
 -- The targets of a machine's chares dropped, one chare after the other.
-use Rattle.lists.specs.Basics.{◌≡◌, refl, sym, ap, ◌∙◌, cond, List, ℕ, ◌+◌, ◌≤◌, arith, ne_eqb, length}
+use Rattle.std.specs.Prelude.{◌≡◌, refl, cond, List, ℕ, ◌+◌, ◌≤◌, length}
+use Rattle.std.proofs.Common.{sym, ap, ◌∙◌, arith, ne_eqb}
 use Rattle.lists.specs.{Tests.either, Map.upd}
 use Rattle.arrays.specs.ArrayMap.{map_beyond}
 use Rattle.protocol.specs.Parts.{State, on, at_home}

@@ -1,10 +1,9 @@
 -- What the program does with what a read gave. No contract can say what is read and what is written: these say what reaches the reader.
-use Rattle.lists.specs.Basics.{◌≡◌, refl, ap, ◌∙◌, Bool, true, false, List, [], ◌++◌, ℕ, zero, suc, arith, length, take}
-use Rattle.std.specs.Prelude.{◌⊎◌, ℤ, pos, negsuc}
+use Rattle.std.specs.Prelude.{◌⊎◌, ℤ, pos, negsuc, ◌≡◌, refl, Bool, true, false, List, [], ◌++◌, ℕ, zero, suc, length, take}
 use Rattle.std.proofs.Math.Logic.{inl, inr}
 use Rattle.std.specs.Int.Signed.{lt_z}
 use Rattle.std.specs.Int.{w64}
-use Rattle.std.proofs.Common.{SFits, of_z, to_z}
+use Rattle.std.proofs.Common.{SFits, of_z, to_z, ap, ◌∙◌, arith}
 use Rattle.std.proofs.Math.Facts.{to_z-of_z}
 use Rattle.io.specs.Counts.{clamp_len}
 use Rattle.lists.specs.Tests.{true_not_false}

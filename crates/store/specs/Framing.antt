@@ -1,5 +1,6 @@
 -- A frame's questions: the number of the first that is answered "no" decides.
-use Rattle.lists.specs.Basics.{◌≡◌, refl, sym, ◌∙◌, Bool, true, ◌≢◌, List, [], ◌∷◌, ℕ, ◌<◌, ◌≤◌, arith}
+use Rattle.std.specs.Prelude.{◌≡◌, refl, Bool, true, ◌≢◌, List, [], ◌∷◌, ℕ, ◌<◌, ◌≤◌}
+use Rattle.std.proofs.Common.{sym, ◌∙◌, arith}
 use Rattle.lists.specs.Questions.{Question, ◌asks◌, numbered, put_all, yes_put, first_no, first_no_yes, put_first}
 use Rattle.protocol.specs.{declared.Rule.Rule, declared.Rule.TheVariants.Other, declared.Answer.Answer, declared.Answer.TheVariants.{Accepted, Refused}, Frames.between, Parts.State, Step.{Outcome, judged}}
 use Rattle.frames.specs.Range.{between_true}

@@ -1,5 +1,5 @@
 -- Where each part of the store begins: the constants of src/, under the same names.
-use Rattle.lists.specs.Basics.{ℕ, ◌+◌, ◌*◌}
+use Rattle.std.specs.Prelude.{ℕ, ◌+◌, ◌*◌}
 use Rattle.head.specs.Head.{HEAD}
 use Rattle.memory.specs.Places.{MEMORY}
 

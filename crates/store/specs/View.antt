@@ -1,5 +1,5 @@
 -- A store of words as a state of the definitions: the head, 13 memories, 13 copies, 7 note lists, the wire. Any words are a state.
-use Rattle.lists.specs.Basics.{◌≡◌, List, ℕ}
+use Rattle.std.specs.Prelude.{◌≡◌, List, ℕ}
 use Rattle.lists.specs.Questions.{Question, put_all}
 use Rattle.protocol.specs.{declared.Rule.Rule, declared.Rule.TheVariants.Other, declared.Answer.Answer, declared.Answer.TheVariants.{Accepted, Refused}, Parts.State, Step.{Outcome, judged}}
 use Rattle.words.specs.{Part.part, Slots.slots}

@@ -1,5 +1,6 @@
 -- A part of the store put anew changes that part of the view, and no other. All arithmetic on places is here.
-use Rattle.lists.specs.Basics.{◌≡◌, refl, sym, ap, ◌∙◌, Bool, List, inl, ℕ, ◌+◌, ◌-◌, ◌<◌, arith, eqb, length, set}
+use Rattle.std.specs.Prelude.{◌≡◌, refl, Bool, List, ℕ, ◌+◌, ◌-◌, ◌<◌, eqb, length, set}
+use Rattle.std.proofs.Common.{sym, ap, ◌∙◌, inl, arith}
 use Rattle.lists.specs.Map.{upd}
 use Rattle.protocol.specs.{declared.Status.Status, Parts.{Job, State, Memory}, Setters.{with_lost, with_status, with_memory, with_copies, with_notes, with_wire}}
 use Rattle.words.specs.{Part.{part, put, put_length, part_length, part_put, part_behind}, PartSet.part_set_before, Copy.Apart}

@@ -1,5 +1,7 @@
 -- A loop through the chares, or the machines, of a store that changes some of them: w says which, f what they become, g is the map before.
-use Rattle.lists.specs.Basics.{◌≡◌, sym, ◌∙◌, fun_ext, Bool, true, false, cond, List, [], inl, inr, ℕ, ◌+◌, ◌<◌, ◌≤◌, arith, lt-ltb, le-ltb, ltb, eqb, length, set, length-set}
+use Rattle.std.specs.Prelude.{◌≡◌, Bool, true, false, cond, List, [], ℕ, ◌+◌, ◌<◌, ◌≤◌, ltb, eqb, length, set}
+use Rattle.std.proofs.Common.{sym, ◌∙◌, inl, inr, arith, lt-ltb, le-ltb, length-set}
+use Rattle.std.proofs.Math.Path.{fun_ext}
 use Rattle.lists.specs.{Tests.{either, lt?}, Map.{upd, upd_ind, upd_self}}
 use Rattle.protocol.specs.{declared.Note.Note, Parts.blank, Setters.with_copies}
 use Rattle.words.specs.{Part.put, Rows.row, Slots.slots}

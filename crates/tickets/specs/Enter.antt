@@ -1,5 +1,7 @@
 -- A ticket entered once.
-use Rattle.lists.specs.Basics.{◌≡◌, refl, sym, ◌∙◌, true, false, List, [], ◌∷◌, ◌++◌, ℕ, ◌+◌, ◌-◌, ◌%◌, ◌<◌, ◌≤◌, arith, mod-eq_of_lt, le-leb, lt-leb, length, length-append}
+use Rattle.std.specs.Prelude.{◌≡◌, refl, true, false, List, [], ◌∷◌, ◌++◌, ℕ, ◌+◌, ◌-◌, ◌%◌, ◌<◌, ◌≤◌, length}
+use Rattle.std.proofs.Common.{sym, ◌∙◌, arith, mod-eq_of_lt, le-leb, length-append}
+use Rattle.std.proofs.lemmas.Bool.{lt-leb}
 use Rattle.lists.specs.Lists.{anyb}
 use Rattle.arrays.specs.{Front.{push, push_fits, push_full}, Place.{place, any_there, none_there}}
 use Rattle.protocol.specs.{Tickets.{for_message, unreceived}, Restart.enter}

@@ -1,5 +1,6 @@
 -- One word as an entry: its fields, its name, and what changes of it fit a word again.
-use Rattle.lists.specs.Basics.{◌≡◌, ◌∙◌, refl, ap, Bool, true, false, ℕ, ◌+◌, ◌*◌, ◌/◌, ◌%◌, ◌<◌, mod-eq_of_lt, eqb, ltb}
+use Rattle.std.specs.Prelude.{◌≡◌, refl, Bool, true, false, ℕ, ◌+◌, ◌*◌, ◌/◌, ◌%◌, ◌<◌, eqb, ltb}
+use Rattle.std.proofs.Common.{◌∙◌, ap, mod-eq_of_lt}
 use Rattle.protocol.specs.{declared.Entry.Entry, Tickets.{for_message, fill, mark_noted}, Checkpoint.above_height}
 use Rattle.words.specs.{Fields.bit, Rows.named}
 use Rattle.item.specs.Item.{item_of, clipped, peer_small, hops_small, by_name as item-name}

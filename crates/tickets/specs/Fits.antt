@@ -1,5 +1,9 @@
 -- A table has at most as many entries as there is room behind the count, and what is found in it fits a word.
-use Rattle.lists.specs.Basics.{◌≡◌, sym, Bool, List, some, ℕ, ◌-◌, ◌<◌, ◌≤◌, arith, length, get_or, length-map, List·getD-map}
+use Rattle.std.specs.Prelude.{◌≡◌, Bool, List, ℕ, ◌-◌, ◌<◌, ◌≤◌, length, get_or}
+use Rattle.std.proofs.Common.{sym, arith}
+use Rattle.std.proofs.Math.ListN.{get_or-map as List·getD-map}
+use Rattle.std.proofs.Math.Option.{some}
+use Rattle.std.proofs.lemmas.List.{length-map}
 use Rattle.lists.specs.Lists.{find}
 use Rattle.protocol.specs.declared.Entry.{Entry}
 use Rattle.words.specs.{Rows.row, Mapped.find_holds}

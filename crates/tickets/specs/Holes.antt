@@ -1,5 +1,7 @@
 -- The highest TN as a loop gathers it, and the lowest hole as a loop seeks it.
-use Rattle.lists.specs.Basics.{◌≡◌, sym, cond, List, [], ◌∷◌, some, none, ℕ, suc, zero, ◌+◌, ◌-◌, ◌<◌, ◌≤◌, max, arith, add-one, length, get_or, drop}
+use Rattle.std.specs.Prelude.{◌≡◌, cond, List, [], ◌∷◌, ℕ, suc, zero, ◌+◌, ◌-◌, ◌<◌, ◌≤◌, max, length, get_or, drop}
+use Rattle.std.proofs.Common.{sym, arith, add-one}
+use Rattle.std.proofs.Math.Option.{some, none}
 use Rattle.lists.specs.{Tests.either, Lists.anyb}
 use Rattle.protocol.specs.{declared.Entry.Entry, Tickets.{has_tn, highest, first_free, lowest_hole}}
 use Rattle.words.specs.Rows.{row}

@@ -1,5 +1,6 @@
 -- A table entry as an item of a row: the peer is the sender, the lower flag is received, the upper one noted. A table is a row of them.
-use Rattle.lists.specs.Basics.{◌≡◌, Bool, cond, List, map, Option, some, none, ℕ, ◌+◌, ◌-◌, ◌*◌, ◌/◌, ◌%◌, eqb, leb, length}
+use Rattle.std.specs.Prelude.{◌≡◌, Bool, cond, List, map, ℕ, ◌+◌, ◌-◌, ◌*◌, ◌/◌, ◌%◌, eqb, leb, length}
+use Rattle.std.proofs.Math.Option.{Option, some, none}
 use Rattle.lists.specs.Lists.{anyb}
 use Rattle.arrays.specs.Front.{push}
 use Rattle.protocol.specs.{declared.Entry.Entry, Tickets.{for_message, unreceived}, Restart.enter}

@@ -1,5 +1,6 @@
 -- An input that comes in pieces of any sizes: the bytes written are the transcript of the whole.
-use Rattle.lists.specs.Basics.{List, [], ◌∷◌, ◌++◌, append_assoc, ◌≡◌, refl, ap, ◌∙◌, ℕ}
+use Rattle.std.specs.Prelude.{List, [], ◌∷◌, ◌++◌, ◌≡◌, refl, ℕ}
+use Rattle.std.proofs.Common.{append_assoc, ap, ◌∙◌}
 use Rattle.lists.specs.Lists.{gather}
 use Rattle.transcript.specs.{Reading.{Reading, beginning, read_all, output, last_output}, Pieces.{read_append, output_append, reads_transcript}}
 use Rattle.protocol.specs.Step.{answers}

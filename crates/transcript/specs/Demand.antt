@@ -1,5 +1,6 @@
 -- The state that a reader holds: that of the lines that are finished, and, if it is quiet, demand 3 of it.
-use Rattle.lists.specs.Basics.{◌≡◌, refl, ap, ◌∙◌, true, cond, List, [], ◌∷◌, ◌++◌, ℕ, eqb}
+use Rattle.std.specs.Prelude.{◌≡◌, refl, true, cond, List, [], ◌∷◌, ◌++◌, ℕ, eqb}
+use Rattle.std.proofs.Common.{ap, ◌∙◌}
 use Rattle.lists.specs.Tests.{either}
 use Rattle.protocol.specs.{Parts.{State, start}, Frames.Line, Lines.{newline, lines}, Step.{Outcome, step, play_all}}
 use Rattle.protocol.specs.{History.{state_after, history_after}, Demand3.{Quiet, Agrees, Begins}}

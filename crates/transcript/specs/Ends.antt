@@ -1,6 +1,7 @@
 -- The end of an input, and a whole input: what the functions yield, from what feeding yields.
-use Rattle.lists.specs.Basics.{true, false, List, [], ◌∷◌, ◌++◌, append_assoc, append-nil, ◌≡◌, refl, sym, ap, ◌∙◌, ℕ, zero, suc, ◌+◌, ◌-◌, ◌≤◌, ◌<◌, min, arith, eq-eqb, ne_eqb}
-use Rattle.lists.specs.Basics.{eqb, leb, length, take, drop, length-append, length-take, length-drop, drop_of_length-le, take_all, take-length, drop-drop}
+use Rattle.std.specs.Prelude.{true, false, List, [], ◌∷◌, ◌++◌, ◌≡◌, refl, ℕ, zero, suc, ◌+◌, ◌-◌, ◌≤◌, ◌<◌, min, eqb, leb, length, take, drop}
+use Rattle.std.proofs.Common.{append_assoc, append-nil, sym, ap, ◌∙◌, arith, eq-eqb, ne_eqb, length-append, length-take, length-drop, drop_of_length-le, take_all, drop-drop}
+use Rattle.std.proofs.Math.Seq.{take-length}
 use Rattle.lists.specs.Tests.{either, true_not_false}
 use Rattle.protocol.specs.{Lines.{newline, lines}}
 use Rattle.store.specs.View.{view}

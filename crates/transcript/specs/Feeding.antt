@@ -1,6 +1,7 @@
 -- A reader that has been fed a part of an input and has written into a lent buffer: where it stands, and how it goes on.
-use Rattle.lists.specs.Basics.{List, [], ◌++◌, append-nil, ◌≡◌, refl, sym, ap, ◌∙◌, ℕ, suc, ◌+◌, ◌-◌, ◌≤◌, ◌<◌, arith, length, take, drop, length-append, length-drop}
-use Rattle.lists.specs.Basics.{take-append-drop, take-take, drop-length}
+use Rattle.std.specs.Prelude.{List, [], ◌++◌, ◌≡◌, refl, ℕ, suc, ◌+◌, ◌-◌, ◌≤◌, ◌<◌, length, take, drop}
+use Rattle.std.proofs.Common.{append-nil, sym, ap, ◌∙◌, arith, length-append, length-drop, take-append-drop, take-take}
+use Rattle.std.proofs.Math.Seq.{drop-length}
 use Rattle.protocol.specs.{Parts.State, Frames.Line, Step.{Outcome, step}}
 use Rattle.arrays.specs.Copies.{put_at, wrote_more}
 use Rattle.lines.specs.LineEnd.{line_end, line_part}

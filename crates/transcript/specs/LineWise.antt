@@ -1,6 +1,7 @@
 -- Reading line by line is reading byte by byte: up to the next newline, and past it.
-use Rattle.lists.specs.Basics.{false, List, [], ◌∷◌, ◌++◌, append_assoc, append-nil, ◌≡◌, refl, ◌∙◌, ℕ, suc, ◌+◌, ◌-◌, ◌≤◌, ◌<◌, arith, le-leb, lt-leb}
-use Rattle.lists.specs.Basics.{eqb, length, take, drop, length-append, drop-drop, take-add}
+use Rattle.std.specs.Prelude.{false, List, [], ◌∷◌, ◌++◌, ◌≡◌, refl, ℕ, suc, ◌+◌, ◌-◌, ◌≤◌, ◌<◌, eqb, length, take, drop}
+use Rattle.std.proofs.Common.{append_assoc, append-nil, ◌∙◌, arith, le-leb, length-append, drop-drop, take-add}
+use Rattle.std.proofs.lemmas.Bool.{lt-leb}
 use Rattle.lists.specs.Tests.{either}
 use Rattle.arrays.specs.Place.{place}
 use Rattle.lines.specs.LineEnd.{line_end, line_part}

@@ -1,6 +1,7 @@
 -- An input in pieces is the whole input, and reading it byte by byte gives its transcript.
-use Rattle.lists.specs.Basics.{true, false, cond, List, [], ◌∷◌, ◌++◌, append_assoc, append-nil, ◌≡◌, refl, sym, ap, ◌∙◌, ℕ, zero, suc, arith, eqb, take}
-use Rattle.lists.specs.Basics.{take-nil}
+use Rattle.std.specs.Prelude.{true, false, cond, List, [], ◌∷◌, ◌++◌, ◌≡◌, refl, ℕ, zero, suc, eqb, take}
+use Rattle.std.proofs.Common.{append_assoc, append-nil, sym, ap, ◌∙◌, arith}
+use Rattle.std.proofs.Math.Seq.{take-nil}
 use Rattle.lists.specs.Tests.{either}
 use Rattle.protocol.specs.{Parts.{State, start}, Frames.Line, Lines.{newline, extend, lines, line, print}, Step.{step, answers_from, answers}}
 use Rattle.frames.specs.LongLine.{cut_line}

@@ -1,5 +1,6 @@
 -- An answer's line with its newline has at most 16 bytes.
-use Rattle.lists.specs.Basics.{List, [], ◌∷◌, ◌++◌, ◌≡◌, refl, sym, ◌∙◌, ℕ, zero, suc, ◌+◌, ◌-◌, ◌≤◌, ◌/◌, arith, length, take, drop, append_assoc, length-append}
+use Rattle.std.specs.Prelude.{List, [], ◌∷◌, ◌++◌, ◌≡◌, refl, ℕ, zero, suc, ◌+◌, ◌-◌, ◌≤◌, ◌/◌, length, take, drop}
+use Rattle.std.proofs.Common.{sym, ◌∙◌, arith, append_assoc, length-append}
 use Rattle.protocol.specs.{declared.Rule.TheVariants.Other, declared.Answer.Answer, declared.Answer.TheVariants.{Accepted, Shown, Lost, Refused}, Lines.{newline, hexadecimal, two_decimals, line_01, letter, ending, line}}
 use Rattle.arrays.specs.Copies.{put_at, put_part}
 use Rattle.transcript.specs.Reading.{answer_room, printed}

@@ -1,5 +1,5 @@
 -- A reader that is fed byte by byte: the state, and what it has of the line under way.
-use Rattle.lists.specs.Basics.{Bool, true, false, cond, ◌||◌, List, [], ◌∷◌, ◌++◌, ℕ, suc, ◌-◌, eqb, leb, length, take}
+use Rattle.std.specs.Prelude.{Bool, true, false, cond, ◌||◌, List, [], ◌∷◌, ◌++◌, ℕ, suc, ◌-◌, eqb, leb, length, take}
 use Rattle.protocol.specs.{Parts.{State, start}, declared.Answer.Answer, Frames.Line, Lines.{newline, line}, Step.step}
 
 -- One more than the longest frame has digits: of a longer line the first bytes are kept, which are no frame either.

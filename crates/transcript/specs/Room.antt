@@ -1,5 +1,7 @@
 -- A buffer of 16 bytes a line has room for every answer.
-use Rattle.lists.specs.Basics.{true, List, [], ◌∷◌, ◌++◌, ◌≡◌, refl, ◌∙◌, ℕ, ◌*◌, ◌-◌, ◌≤◌, ◌<◌, arith, eq-eqb, le-leb, eqb, length, take-length, drop-length}
+use Rattle.std.specs.Prelude.{true, List, [], ◌∷◌, ◌++◌, ◌≡◌, refl, ℕ, ◌*◌, ◌-◌, ◌≤◌, ◌<◌, eqb, length}
+use Rattle.std.proofs.Common.{◌∙◌, arith, eq-eqb, le-leb}
+use Rattle.std.proofs.Math.Seq.{take-length, drop-length}
 use Rattle.lists.specs.Tests.{either}
 use Rattle.protocol.specs.{Parts.{State, start}, Frames.Line, Lines.{newline, lines}, Step.{step, answers}}
 use Rattle.transcript.specs.{Reading.{Reading, answer_room, within, beginning, printed, is_empty, takes, finishes}}

@@ -1,5 +1,6 @@
 -- A store and a line under way as a reader of the definitions, and what the exported functions yield.
-use Rattle.lists.specs.Basics.{Bool, true, false, cond, ◌&&◌, List, [], ◌++◌, ◌≡◌, sym, ap, ◌∙◌, ℕ, ◌-◌, ◌≤◌, arith, eqb, length, take, drop, length-take, replicate}
+use Rattle.std.specs.Prelude.{Bool, true, false, cond, ◌&&◌, List, [], ◌++◌, ◌≡◌, ℕ, ◌-◌, ◌≤◌, eqb, length, take, drop, replicate}
+use Rattle.std.proofs.Common.{sym, ap, ◌∙◌, arith, length-take}
 use Rattle.store.specs.{Places.STORE, View.view}
 use Rattle.opening.specs.Zeros.{zeros_start}
 use Rattle.transcript.specs.{Reading.{Reading, LINE, line_room, within, beginning, read_all, output, last_output, takes, finishes, end_state}, Pieces.read_append}

@@ -1,12 +1,11 @@
 -- The rotation by 5: two shifts make it, and its bits move round.
-use Rattle.std.specs.Prelude.{bit_or}
-use Rattle.lists.specs.Basics.{◌≡◌, sym, ◌∙◌, inl, inr, ℕ, ◌+◌, ◌-◌, ◌*◌, ◌/◌, ◌%◌, ◌^◌, ◌<◌, arith}
+use Rattle.std.specs.Prelude.{bit_or, ◌≡◌, ℕ, ◌+◌, ◌-◌, ◌*◌, ◌/◌, ◌%◌, ◌^◌, ◌<◌}
 use Rattle.lists.specs.Tests.{lt?}
 use Rattle.protocol.specs.Work.{rotate}
 use Rattle.window.specs.{Bits.bits, BitLaws.{low_bits, high_bits}}
 use Rattle.std.proofs.lemmas.Nat.{or_shifted}
 use Rattle.std.proofs.Math.Pow.{high, low}
-use Rattle.std.proofs.Common.{shr_lt}
+use Rattle.std.proofs.Common.{shr_lt, sym, ◌∙◌, inl, inr, arith}
 
 -- the 27 low bits move up by 5, the 5 high ones come round to the places left empty
 rotated : (x : ℕ) → rotate x ≡ x % 2 ^ 27 * 2 ^ 5 + x / 2 ^ 27

@@ -1,11 +1,10 @@
 -- Two words as one number: a bit read and set, the run of ones, a shift.
-use Rattle.std.specs.Prelude.{bit_or}
-use Rattle.lists.specs.Basics.{◌≡◌, sym, ◌∙◌, ap, true, ℕ, ◌+◌, ◌-◌, ◌*◌, ◌/◌, ◌%◌, ◌^◌, ◌<◌, ◌≤◌, arith, div-eq_of_lt, lt_of_lt_of_le}
+use Rattle.std.specs.Prelude.{bit_or, ◌≡◌, true, ℕ, ◌+◌, ◌-◌, ◌*◌, ◌/◌, ◌%◌, ◌^◌, ◌<◌, ◌≤◌}
 use Rattle.lists.specs.Map.{upd}
 use Rattle.protocol.specs.Window.{ones, width}
 use Rattle.window.specs.{Bits.bits, BitLaws.{set_bit, shift_bits, low_bits, run_of_ones, ones_same, ones_stop, ones_on}}
-use Rattle.std.proofs.Common.{mul_assoc, mul_comm, add-mul, add_assoc, pow-add, shl_exact, shr-shr, shr_lt}
-use Rattle.std.proofs.Math.Nat.{mul-add-div_right, pow-le-pow_right}
+use Rattle.std.proofs.Common.{mul_assoc, mul_comm, add-mul, add_assoc, pow-add, shl_exact, shr-shr, shr_lt, sym, ◌∙◌, ap, arith, lt_of_lt_of_le}
+use Rattle.std.proofs.Math.Nat.{mul-add-div_right, pow-le-pow_right, div-eq_of_lt}
 use Rattle.std.proofs.lemmas.Nat.{or_block, trailing_le, shl-shr, mod-pow-add}
 use Rattle.std.specs.Int.Bits.{or_zero_r, or_shifted_r}
 use Rattle.std.specs.Int.Count.{count_trailing_zeros}

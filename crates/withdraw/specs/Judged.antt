@@ -1,5 +1,6 @@
 -- The questions of frame 17 as the code puts them: 2 to 5 on the chare, then 12 by the desk's log, the wire and the chare's table.
-use Rattle.lists.specs.Basics.{◌≡◌, refl, sym, ap, ◌∙◌, true, false, ◌&&◌, ◌≢◌, List, [], ◌∷◌, ◌++◌, ℕ, ◌<◌, arith}
+use Rattle.std.specs.Prelude.{◌≡◌, refl, true, false, ◌&&◌, ◌≢◌, List, [], ◌∷◌, ◌++◌, ℕ, ◌<◌}
+use Rattle.std.proofs.Common.{sym, ap, ◌∙◌, arith}
 use Rattle.lists.specs.{Lists.find, Questions.{Question, Yes, ◌asks◌, first_no, first_no_yes, first_no_stops, first_no_passes}}
 use Rattle.protocol.specs.{Parts.up, Tickets.entry, Packets.{lookup, is_named}, Withdraw.{last_sn, without_tn, logged_without_tn}}
 use Rattle.protocol.specs.Questions.{is_chare, no_entry, on_wire, is_there, can_be_taken_back, withdraw_questions}

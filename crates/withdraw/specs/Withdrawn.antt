@@ -1,5 +1,6 @@
 -- What frame 17 leaves where the store stands: the desk's memory, then the wire.
-use Rattle.lists.specs.Basics.{◌≡◌, ◌∙◌, not, List, ℕ, ◌+◌, ◌-◌, ◌<◌, arith, length, set, length-set}
+use Rattle.std.specs.Prelude.{◌≡◌, not, List, ℕ, ◌+◌, ◌-◌, ◌<◌, length, set}
+use Rattle.std.proofs.Common.{◌∙◌, arith, length-set}
 use Rattle.lists.specs.Lists.{keep, remove1}
 use Rattle.protocol.specs.{Packets.{for_receiver, is_named}, Withdraw.{is_other, desk_without, take_back}}
 use Rattle.words.specs.Part.{part, put}

@@ -1,5 +1,7 @@
 -- What is left of a row, word by word. A view says what its words mean.
-use Rattle.lists.specs.Basics.{◌≡◌, refl, sym, ap, ◌∙◌, cond, List, map, ℕ, ◌+◌, ◌-◌, ◌≤◌, ◌<◌, arith, eqb, eq-eqb, ne_eqb, length, take, drop, get_or, set, length-set, length-map, length-append, length-take, drop-drop, drop-set-lt, get_or-set_same, get_or-set_other}
+use Rattle.std.specs.Prelude.{◌≡◌, refl, cond, List, map, ℕ, ◌+◌, ◌-◌, ◌≤◌, ◌<◌, eqb, length, take, drop, get_or, set}
+use Rattle.std.proofs.Common.{sym, ap, ◌∙◌, arith, eq-eqb, ne_eqb, length-set, length-append, length-take, drop-drop, drop-set-lt, get_or-set_same, get_or-set_other}
+use Rattle.std.proofs.lemmas.List.{length-map}
 use Rattle.arrays.specs.Front.{push, push_fits}
 use Rattle.words.specs.Rows.{row, row_length, row_set, row_set_length, row_push, row_cut}
 

@@ -1,7 +1,7 @@
 -- A counted row of words: the count, then the items. A count above the room counts as the room.
-use Rattle.lists.specs.Basics.{◌≡◌, refl, sym, ap, ◌∙◌, Bool, true, false, List, [], ◌∷◌, ◌++◌, append-nil, ℕ, suc, zero, ◌+◌, ◌-◌, ◌*◌, ◌%◌, ◌≤◌, ◌<◌, min, arith, add-one, eqb}
-use Rattle.lists.specs.Basics.{length, take, drop, get_or, set, length-drop, length-set, drop_of_length-le, get_or-drop, drop-set-add, drop-set-lt, get_or-set_same, get_or-set_other}
-use Rattle.lists.specs.Basics.{take-take, take_all}
+use Rattle.std.specs.Prelude.{◌≡◌, refl, Bool, true, false, List, [], ◌∷◌, ◌++◌, ℕ, suc, zero, ◌+◌, ◌-◌, ◌*◌, ◌%◌, ◌≤◌, ◌<◌, min, eqb, length, take, drop, get_or, set}
+use Rattle.std.proofs.Common.{sym, ap, ◌∙◌, append-nil, arith, add-one, length-drop, length-set, drop_of_length-le, get_or-drop, drop-set-lt, get_or-set_same, get_or-set_other, take-take, take_all}
+use Rattle.std.proofs.lemmas.List.{drop-set-add}
 use Rattle.arrays.specs.{Front.{push, front_length, front_at, put_at, push_room, no_room, front_beyond}, Place.{place, place_hit, place_miss, place_end}}
 
 unfoldable pub row : List ℕ → List ℕ

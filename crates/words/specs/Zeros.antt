@@ -1,6 +1,6 @@
 -- Words that are all 0.
-use Rattle.lists.specs.Basics.{◌≡◌, refl, sym, ap, ◌∙◌, List, [], ◌∷◌, ◌++◌, ℕ, suc, zero, ◌+◌, ◌-◌, ◌≤◌, ◌<◌, arith, add-one, length, take, drop, get_or, set, replicate}
-use Rattle.lists.specs.Basics.{take-suc-set, take_all}
+use Rattle.std.specs.Prelude.{◌≡◌, refl, List, [], ◌∷◌, ◌++◌, ℕ, suc, zero, ◌+◌, ◌-◌, ◌≤◌, ◌<◌, length, take, drop, get_or, set, replicate}
+use Rattle.std.proofs.Common.{sym, ap, ◌∙◌, arith, add-one, take-suc-set, take_all}
 use Rattle.words.specs.Part.{part}
 
 abbrev pub zeros : ℕ → List ℕ

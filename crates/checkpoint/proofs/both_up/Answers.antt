@@ -1,5 +1,6 @@
 -- `checkpoint::both_up` meets its contract: one, then the other.
-use Rattle.lists.specs.Basics.{sym, ◌∙◌, not-true, not-false, rules}
+use Rattle.std.proofs.Common.{sym, ◌∙◌, rules}
+use Rattle.std.proofs.lemmas.Bool.{not-true, not-false}
 use Rattle.checkpoint.proofs.both_up.Goals as goal
 
 pub returns-then-not-is_up : goal.returns-then-not-is_up

@@ -1,5 +1,6 @@
 -- `checkpoint::checkpoint` meets its contract: refused, or fixed, held and cleaned.
-use Rattle.lists.specs.Basics.{refl, arith, rules}
+use Rattle.std.specs.Prelude.{refl}
+use Rattle.std.proofs.Common.{arith, rules}
 use Rattle.arrays.specs.ArrayMap.{as_map}
 use Rattle.protocol.specs.Questions.{checkpoint_questions, is_machine}
 use Rattle.store.specs.{Framing.{refused, accepted, machine_in}, View.{view, tried}}

@@ -1,5 +1,6 @@
 -- `checkpoint::clean` meets its contract: the logs below n are cleaned.
-use Rattle.lists.specs.Basics.{◌≡◌, sym, ap, ◌∙◌, ◌+◌, ◌-◌, ◌*◌, ◌≤◌, arith, rules, length}
+use Rattle.std.specs.Prelude.{◌≡◌, ◌+◌, ◌-◌, ◌*◌, ◌≤◌, length}
+use Rattle.std.proofs.Common.{sym, ap, ◌∙◌, arith, rules}
 use Rattle.arrays.specs.ArrayMap.{as_map}
 use Rattle.memory.specs.Places.{MEMORY}
 use Rattle.protocol.specs.Setters.{with_live}

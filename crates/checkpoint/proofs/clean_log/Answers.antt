@@ -1,5 +1,5 @@
 -- `checkpoint::clean_log` meets its contract: the log is the row that the memory lends.
-use Rattle.lists.specs.Basics.{arith, rules}
+use Rattle.std.proofs.Common.{arith, rules}
 use Rattle.arrays.specs.ArrayMap.{as_map}
 use Rattle.lists.specs.Lists.{keep}
 use Rattle.logs.specs.Log.{is_kept}

@@ -1,4 +1,5 @@
-use Rattle.lists.specs.Basics.{◌≡◌, sym, ◌∙◌, ◌+◌, ◌-◌, ◌*◌, ◌≤◌, arith, rules, length}
+use Rattle.std.specs.Prelude.{◌≡◌, ◌+◌, ◌-◌, ◌*◌, ◌≤◌, length}
+use Rattle.std.proofs.Common.{sym, ◌∙◌, arith, rules}
 use Rattle.memory.specs.Places.{MEMORY}
 use Rattle.store.specs.{ViewLaws.apart, Places.{STORE, LIVE}, View.view, Visits.visit_none}
 use Rattle.checkpoint.specs.Fixing.{fixed_to, both, fix_miss, fix_hit, fix_end}

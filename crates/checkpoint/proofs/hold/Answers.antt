@@ -1,5 +1,6 @@
 -- `checkpoint::hold` meets its contract: one word of the head, then the notes.
-use Rattle.lists.specs.Basics.{[], ◌≡◌, sym, ◌∙◌, ◌+◌, ◌-◌, ◌*◌, arith, rules, length-set}
+use Rattle.std.specs.Prelude.{[], ◌≡◌, ◌+◌, ◌-◌, ◌*◌}
+use Rattle.std.proofs.Common.{sym, ◌∙◌, arith, rules, length-set}
 use Rattle.store.specs.{Visits.{held_length, held_put}, Places.{NOTES, NOTELIST}}
 use Rattle.checkpoint.specs.Parts.{holding}
 use Rattle.checkpoint.proofs.hold.Goals as goal

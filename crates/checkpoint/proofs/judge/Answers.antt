@@ -1,5 +1,5 @@
 -- `checkpoint::judge` meets its contract: each question by the function that answers it.
-use Rattle.lists.specs.Basics.{◌∙◌, rules}
+use Rattle.std.proofs.Common.{◌∙◌, rules}
 use Rattle.protocol.specs.{Parts.up, Questions.{checkpoint_questions, is_machine}}
 use Rattle.head.specs.Head.{runs}
 use Rattle.store.specs.View.{view}

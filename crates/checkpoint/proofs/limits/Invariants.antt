@@ -1,4 +1,5 @@
-use Rattle.lists.specs.Basics.{◌≡◌, refl, sym, ◌∙◌, ◌+◌, ◌-◌, ◌*◌, ◌≤◌, arith, rules, length-set, length}
+use Rattle.std.specs.Prelude.{◌≡◌, refl, ◌+◌, ◌-◌, ◌*◌, ◌≤◌, length}
+use Rattle.std.proofs.Common.{sym, ◌∙◌, arith, rules, length-set}
 use Rattle.arrays.specs.ArrayMap.{as_map, map_blank}
 use Rattle.memory.specs.Places.{MEMORY}
 use Rattle.store.specs.{Places.LIVE, View.view, Visits.{visit_none, visit_miss}}

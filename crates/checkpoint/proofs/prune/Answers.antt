@@ -1,5 +1,6 @@
 -- `checkpoint::prune` meets its contract: the table is the row that the memory lends.
-use Rattle.lists.specs.Basics.{◌∙◌, map, arith, rules}
+use Rattle.std.specs.Prelude.{map}
+use Rattle.std.proofs.Common.{◌∙◌, arith, rules}
 use Rattle.lists.specs.Lists.{keep}
 use Rattle.protocol.specs.{Tickets.mark_noted, Checkpoint.{above_height, pruned}}
 use Rattle.memory.specs.View.{table_changed}

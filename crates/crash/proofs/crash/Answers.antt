@@ -1,5 +1,7 @@
 -- `crash::crash` meets its contract: refused, lost without cover, or down.
-use Rattle.lists.specs.Basics.{refl, arith, not-true, not-false, rules}
+use Rattle.std.specs.Prelude.{refl}
+use Rattle.std.proofs.Common.{arith, rules}
+use Rattle.std.proofs.lemmas.Bool.{not-true, not-false}
 use Rattle.protocol.specs.Questions.{crash_questions, is_machine}
 use Rattle.store.specs.{Framing.{refused, machine_in}, View.view}
 use Rattle.crash.specs.Whole.{covered, uncovered}

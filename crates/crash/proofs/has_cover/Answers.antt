@@ -1,5 +1,7 @@
 -- `crash::has_cover` meets its contract: the machines before q are normal, so the answer is that for the rest.
-use Rattle.lists.specs.Basics.{◌≡◌, sym, ◌∙◌, ◌+◌, ◌-◌, ◌≤◌, arith, not-true, not-false, rules}
+use Rattle.std.specs.Prelude.{◌≡◌, ◌+◌, ◌-◌, ◌≤◌}
+use Rattle.std.proofs.Common.{sym, ◌∙◌, arith, rules}
+use Rattle.std.proofs.lemmas.Bool.{not-true, not-false}
 use Rattle.arrays.specs.Loops.{each, each_hit, each_miss, each_end}
 use Rattle.lists.specs.Lists.{allb}
 use Rattle.protocol.specs.{Crash.{is_normal, has_cover}, Parts.job_machines}

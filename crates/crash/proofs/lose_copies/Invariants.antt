@@ -1,4 +1,5 @@
-use Rattle.lists.specs.Basics.{◌≡◌, ap, ◌+◌, ◌-◌, ◌*◌, ◌≤◌, arith, rules, length}
+use Rattle.std.specs.Prelude.{◌≡◌, ◌+◌, ◌-◌, ◌*◌, ◌≤◌, length}
+use Rattle.std.proofs.Common.{ap, arith, rules}
 use Rattle.memory.specs.Places.{MEMORY}
 use Rattle.store.specs.{Places.{STORE, COPY}, View.view, Visits.visit_none}
 use Rattle.crash.specs.Memories.{copy_to, with_copy_map, copy_miss, copy_hit, copy_end}

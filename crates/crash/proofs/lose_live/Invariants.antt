@@ -1,4 +1,5 @@
-use Rattle.lists.specs.Basics.{◌≡◌, sym, ap, ◌∙◌, ◌+◌, ◌-◌, ◌*◌, ◌≤◌, arith, rules, length}
+use Rattle.std.specs.Prelude.{◌≡◌, ◌+◌, ◌-◌, ◌*◌, ◌≤◌, length}
+use Rattle.std.proofs.Common.{sym, ap, ◌∙◌, arith, rules}
 use Rattle.memory.specs.Places.{MEMORY}
 use Rattle.protocol.specs.Setters.{with_live}
 use Rattle.store.specs.{Places.{STORE, LIVE}, View.view, Visits.visit_none}

@@ -1,5 +1,6 @@
 -- `crash::lose_notes` meets its contract: the machines below n are done.
-use Rattle.lists.specs.Basics.{◌≡◌, ◌+◌, ◌-◌, ◌*◌, ◌≤◌, arith, rules, length-set, length}
+use Rattle.std.specs.Prelude.{◌≡◌, ◌+◌, ◌-◌, ◌*◌, ◌≤◌, length}
+use Rattle.std.proofs.Common.{arith, rules, length-set}
 use Rattle.store.specs.{Visits.{visit_none, held_length}, Places.{STORE, NOTES, NOTELIST}, View.view}
 use Rattle.crash.specs.Keeping.{kept_to, both, kept_miss, kept_hit, kept_end}
 use Rattle.crash.proofs.lose_notes.Goals as goal

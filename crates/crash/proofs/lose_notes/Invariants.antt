@@ -1,4 +1,5 @@
-use Rattle.lists.specs.Basics.{◌≡◌, ◌+◌, ◌-◌, ◌*◌, ◌≤◌, arith, rules, length-set, length}
+use Rattle.std.specs.Prelude.{◌≡◌, ◌+◌, ◌-◌, ◌*◌, ◌≤◌, length}
+use Rattle.std.proofs.Common.{arith, rules, length-set}
 use Rattle.store.specs.{Visits.{visit_none, held_length}, Places.{STORE, NOTES, NOTELIST}, View.view}
 use Rattle.crash.specs.Keeping.{kept_to, both, kept_miss, kept_hit, kept_end}
 use Rattle.crash.proofs.lose_notes.Given as goal

@@ -1,5 +1,5 @@
 -- `put_line`: the three numbers, one behind the other.
-use Rattle.lists.specs.Basics.{arith, rules}
+use Rattle.std.proofs.Common.{arith, rules}
 use Rattle.crashsets.specs.Digits.{field_fits, first_fits, line_put}
 use Rattle.crashsets.proofs.put_line.Goals as goal
 

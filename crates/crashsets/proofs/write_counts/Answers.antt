@@ -1,5 +1,6 @@
 -- `write_counts`: f in turn. The invariant: the lines of those passed are written.
-use Rattle.lists.specs.Basics.{◌≡◌, refl, ◌∙◌, ◌+◌, ◌-◌, ◌≤◌, arith, rules, length}
+use Rattle.std.specs.Prelude.{◌≡◌, refl, ◌+◌, ◌-◌, ◌≤◌, length}
+use Rattle.std.proofs.Common.{◌∙◌, arith, rules}
 use Rattle.protocol.specs.Job.{machines_of, job_of}
 use Rattle.frames.specs.Decode.{decoded}
 use Rattle.crashsets.specs.{Machines.few, Digits.{SoFar, nothing_yet, one_more, all_lines, total_small, survived_small}}

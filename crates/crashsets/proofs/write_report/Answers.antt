@@ -1,5 +1,6 @@
 -- `write_report`: by the frame that the line is.
-use Rattle.lists.specs.Basics.{sym, ◌∙◌, List, [], ◌∷◌, ℕ, rules}
+use Rattle.std.specs.Prelude.{List, [], ◌∷◌, ℕ}
+use Rattle.std.proofs.Common.{sym, ◌∙◌, rules}
 use Rattle.crashsets.specs.First.{said, first_said, no_job_said, wrote_number}
 use types.Run.{miss}
 use Rattle.crashsets.proofs.write_report.Goals as goal

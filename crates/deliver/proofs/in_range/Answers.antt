@@ -1,5 +1,6 @@
 -- `in_range` puts its tests one after the other.
-use Rattle.lists.specs.Basics.{sym, ◌∙◌, le-leb, lt-leb, not-true, not-false, rules}
+use Rattle.std.proofs.Common.{sym, ◌∙◌, le-leb, rules}
+use Rattle.std.proofs.lemmas.Bool.{lt-leb, not-true, not-false}
 use Rattle.protocol.specs.Frames.{between}
 use Rattle.deliver.specs.Frame.{in_range}
 use Rattle.deliver.proofs.in_range.Goals as goal

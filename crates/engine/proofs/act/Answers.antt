@@ -1,5 +1,5 @@
 -- `act` goes by the frame: each arm's crate gives what `acted` says.
-use Rattle.lists.specs.Basics.{refl}
+use Rattle.std.specs.Prelude.{refl}
 use Rattle.store.specs.Framing.{refuses}
 use Rattle.engine.specs.Dispatch.{acted}
 use Rattle.engine.proofs.act.Goals as goal

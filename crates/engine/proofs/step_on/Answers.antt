@@ -1,4 +1,4 @@
-use Rattle.lists.specs.Basics.{sym, ◌∙◌}
+use Rattle.std.proofs.Common.{sym, ◌∙◌}
 use Rattle.engine.specs.Stepped.{stepped, left}
 use Rattle.engine.proofs.step_on.Goals as goal
 

@@ -1,5 +1,5 @@
 -- `frames::byte` meets its contract: within the line the byte of two characters, past its end 0.
-use Rattle.lists.specs.Basics.{sym, ◌∙◌}
+use Rattle.std.proofs.Common.{sym, ◌∙◌}
 use Rattle.frames.specs.{CodeLaws.coded_at, DecodeLaws.decoded_end}
 use Rattle.frames.proofs.byte.Goals as goal
 

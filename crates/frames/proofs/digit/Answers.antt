@@ -1,5 +1,6 @@
 -- `frames::digit` meets its contract: a range of characters after the other, and what stands in none of them.
-use Rattle.lists.specs.Basics.{false, ◌⊎◌, inl, inr, ◌≡◌, ℕ, suc, ◌<◌, ◌≤◌, ◌∙◌, arith, ltb-true}
+use Rattle.std.specs.Prelude.{false, ◌⊎◌, ◌≡◌, ℕ, suc, ◌<◌, ◌≤◌}
+use Rattle.std.proofs.Common.{inl, inr, ◌∙◌, arith, ltb-true}
 use Rattle.protocol.specs.Frames.{digit, between}
 use Rattle.protocol.proofs.{Recovery.Frames.Job.true_between}
 use Rattle.frames.specs.{Codes.{or_no_digit, digit_code}, Range.{between_low, between_high}}

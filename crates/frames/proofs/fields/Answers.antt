@@ -1,5 +1,5 @@
 -- `frames::fields` meets its contract: the table tells the length of each kind.
-use Rattle.lists.specs.Basics.{◌∙◌, arith}
+use Rattle.std.proofs.Common.{◌∙◌, arith}
 use Rattle.protocol.specs.Frames.{least, least_length}
 use Rattle.frames.specs.TableLaws.{single_line}
 use Rattle.frames.proofs.fields.Goals as goal

@@ -1,5 +1,6 @@
 -- `frames::inject` meets its contract: four codes, judged by their sum.
-use Rattle.lists.specs.Basics.{◌≡◌, ℕ, ◌+◌, ◌*◌, arith, get_or}
+use Rattle.std.specs.Prelude.{◌≡◌, ℕ, ◌+◌, ◌*◌, get_or}
+use Rattle.std.proofs.Common.{arith}
 use Rattle.protocol.specs.Frames.{Line, parts, two_bytes}
 use Rattle.frames.specs.{CodeLaws.coded_at, KindLaws.{sum_of, behind_none, behind_parts}, Read.{read_as, behind_kind}, Decode.decoded, declared.Frame.TheVariants.Inject}
 use Rattle.frames.proofs.inject.Goals as goal

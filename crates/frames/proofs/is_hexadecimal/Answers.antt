@@ -1,5 +1,5 @@
 -- `frames::is_hexadecimal` meets its contract: the loop has passed only digits, so the answer is that for the rest.
-use Rattle.lists.specs.Basics.{sym, ◌∙◌, arith, rules, eq-eqb, ne_eqb, add-one, drop-cons, drop_of_length-le}
+use Rattle.std.proofs.Common.{sym, ◌∙◌, arith, rules, eq-eqb, ne_eqb, add-one, drop-cons, drop_of_length-le}
 use Rattle.lists.specs.Lists.{allb}
 use Rattle.frames.specs.{Decode.{is_hexadecimal}, CodeLaws.{digit_true, digit_false}}
 use Rattle.frames.proofs.is_hexadecimal.Goals as goal

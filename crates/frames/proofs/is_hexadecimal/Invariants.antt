@@ -1,4 +1,4 @@
-use Rattle.lists.specs.Basics.{◌≡◌, ◌≤◌, ◌-◌, length, drop}
+use Rattle.std.specs.Prelude.{◌≡◌, ◌≤◌, ◌-◌, length, drop}
 use Rattle.lists.specs.Lists.{allb}
 use Rattle.frames.specs.{Decode.{is_digit, is_hexadecimal}}
 use Rattle.frames.proofs.is_hexadecimal.Given as goal

@@ -1,5 +1,5 @@
 -- `frames::job` meets its contract: the digits first, then the length that two bytes tell.
-use Rattle.lists.specs.Basics.{sym, ◌∙◌, eq-eqb, ne_eqb}
+use Rattle.std.proofs.Common.{sym, ◌∙◌, eq-eqb, ne_eqb}
 use Rattle.frames.specs.Read.{job_as}
 use Rattle.frames.proofs.job.Goals as goal
 

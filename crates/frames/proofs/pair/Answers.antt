@@ -1,5 +1,5 @@
 -- `frames::pair` meets its contract: the codes of two characters.
-use Rattle.lists.specs.Basics.{sym, ◌∙◌, arith}
+use Rattle.std.proofs.Common.{sym, ◌∙◌, arith}
 use Rattle.frames.specs.{Codes.{digit_code, codes}, CodeLaws.code_small, DecodeLaws.get_or_pairs}
 use Rattle.frames.proofs.pair.Goals as goal
 

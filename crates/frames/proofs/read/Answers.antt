@@ -1,5 +1,6 @@
 -- `frames::read` meets its contract: the kind decides, then the length, then the digits behind the kind.
-use Rattle.lists.specs.Basics.{refl, ◌∙◌, arith, length}
+use Rattle.std.specs.Prelude.{refl, length}
+use Rattle.std.proofs.Common.{◌∙◌, arith}
 use Rattle.protocol.specs.Frames.{least, least_length}
 use Rattle.frames.specs.{ReadLaws.{frame_short, frame_unknown, frame_job, frame_length, frame_behind}, TableLaws.least_small, Read.Sized}
 use Rattle.frames.proofs.read.Goals as goal

@@ -1,5 +1,5 @@
 -- `frames::single` meets its contract: one code judged, and each kind at its number.
-use Rattle.lists.specs.Basics.{arith, ne_eqb}
+use Rattle.std.proofs.Common.{arith, ne_eqb}
 use Rattle.protocol.specs.Frames.{parts}
 use Rattle.frames.specs.{CodeLaws.coded_at, KindLaws.{sum_of, behind_none, behind_parts}, Read.read_as}
 use Rattle.frames.proofs.single.Goals as goal

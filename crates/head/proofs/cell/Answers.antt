@@ -1,5 +1,5 @@
 -- `head::cell` meets its contract: 0 at 0, the clamped word elsewhere.
-use Rattle.lists.specs.Basics.{rules}
+use Rattle.std.proofs.Common.{rules}
 use Rattle.head.specs.{Head.cell, Cells.cell_read}
 use Rattle.head.proofs.cell.Goals as goal
 

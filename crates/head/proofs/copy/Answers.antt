@@ -1,5 +1,6 @@
 -- `head::copy` meets its contract: i words are copied.
-use Rattle.lists.specs.Basics.{◌≡◌, refl, ◌-◌, ◌≤◌, arith, rules, length, length-set, take}
+use Rattle.std.specs.Prelude.{◌≡◌, refl, ◌-◌, ◌≤◌, length, take}
+use Rattle.std.proofs.Common.{arith, rules, length-set}
 use Rattle.head.specs.{Head.HEAD, HeadLaws.{copy_one, copy_all}}
 use Rattle.head.proofs.copy.Goals as goal
 

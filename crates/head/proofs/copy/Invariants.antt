@@ -1,4 +1,5 @@
-use Rattle.lists.specs.Basics.{◌≡◌, refl, ◌-◌, ◌≤◌, arith, rules, length, length-set, take}
+use Rattle.std.specs.Prelude.{◌≡◌, refl, ◌-◌, ◌≤◌, length, take}
+use Rattle.std.proofs.Common.{arith, rules, length-set}
 use Rattle.head.specs.{Head.HEAD, HeadLaws.{copy_one, copy_all}}
 use Rattle.head.proofs.copy.Given as goal
 

@@ -1,5 +1,5 @@
 -- `head::destination` meets its contract: by what `home` and `buddy` ensure, kind by kind.
-use Rattle.lists.specs.Basics.{◌∙◌, eq-eqb, ne_eqb, rules}
+use Rattle.std.proofs.Common.{◌∙◌, eq-eqb, ne_eqb, rules}
 use Rattle.protocol.specs.Packets.{destination}
 use Rattle.head.proofs.destination.Goals as goal
 

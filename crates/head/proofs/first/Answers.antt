@@ -1,5 +1,5 @@
 -- `head::first` meets its contract: a cell of the view.
-use Rattle.lists.specs.Basics.{rules}
+use Rattle.std.proofs.Common.{rules}
 use Rattle.head.specs.Head.{job_of}
 use Rattle.head.proofs.first.Goals as goal
 

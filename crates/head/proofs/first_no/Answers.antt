@@ -1,5 +1,5 @@
 -- `head::first_no` meets its contract: question by question.
-use Rattle.lists.specs.Basics.{not-true, not-false}
+use Rattle.std.proofs.lemmas.Bool.{not-true, not-false}
 use Rattle.lists.specs.Questions.{first_no}
 use Rattle.head.proofs.first_no.Goals as goal
 

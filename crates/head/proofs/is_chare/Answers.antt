@@ -1,5 +1,6 @@
 -- `head::is_chare` meets its contract: the two tests of a range.
-use Rattle.lists.specs.Basics.{le-leb, lt-leb, rules}
+use Rattle.std.proofs.Common.{le-leb, rules}
+use Rattle.std.proofs.lemmas.Bool.{lt-leb}
 use Rattle.protocol.specs.Frames.{between}
 use Rattle.head.proofs.is_chare.Goals as goal
 

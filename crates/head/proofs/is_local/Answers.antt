@@ -1,5 +1,5 @@
 -- `head::is_local` meets its contract: by what `home` ensures.
-use Rattle.lists.specs.Basics.{eq-eqb, ne_eqb, rules}
+use Rattle.std.proofs.Common.{eq-eqb, ne_eqb, rules}
 use Rattle.protocol.specs.Sending.{is_local}
 use Rattle.head.proofs.is_local.Goals as goal
 

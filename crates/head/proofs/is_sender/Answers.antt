@@ -1,5 +1,5 @@
 -- `head::is_sender` meets its contract: by what `chares` ensures.
-use Rattle.lists.specs.Basics.{rules}
+use Rattle.std.proofs.Common.{rules}
 use Rattle.head.proofs.is_sender.Goals as goal
 
 pub returns : goal.returns

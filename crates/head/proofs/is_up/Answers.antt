@@ -1,5 +1,5 @@
 -- `head::is_up` meets its contract: the desk, and a machine by its word.
-use Rattle.lists.specs.Basics.{ne_eqb, rules}
+use Rattle.std.proofs.Common.{ne_eqb, rules}
 use Rattle.head.specs.{Head.{runs, status_of}, HeadLaws.not_down}
 use Rattle.head.proofs.is_up.Goals as goal
 

@@ -1,5 +1,5 @@
 -- `head::machines` meets its contract: the clamp is that of the view.
-use Rattle.lists.specs.Basics.{◌∙◌, arith, rules}
+use Rattle.std.proofs.Common.{◌∙◌, arith, rules}
 use Rattle.words.specs.Part.{part_at}
 use Rattle.head.specs.Head.{MACHINES, job_of}
 use Rattle.head.proofs.machines.Goals as goal

@@ -1,5 +1,5 @@
 -- `head::on` meets its contract: by what `home` ensures.
-use Rattle.lists.specs.Basics.{rules}
+use Rattle.std.proofs.Common.{rules}
 use Rattle.protocol.specs.Parts.{on}
 use Rattle.head.proofs.on.Goals as goal
 

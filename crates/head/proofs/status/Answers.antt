@@ -1,5 +1,5 @@
 -- `head::status` meets its contract: word by word.
-use Rattle.lists.specs.Basics.{sym, ◌∙◌, ne_eqb, rules}
+use Rattle.std.proofs.Common.{sym, ◌∙◌, ne_eqb, rules}
 use Rattle.head.specs.Head.{as_status, status_of}
 use Rattle.head.proofs.status.Goals as goal
 

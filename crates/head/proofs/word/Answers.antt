@@ -1,5 +1,5 @@
 -- `head::word` meets its contract: a word of the part, or past its end.
-use Rattle.lists.specs.Basics.{sym, rules}
+use Rattle.std.proofs.Common.{sym, rules}
 use Rattle.arrays.specs.ArrayMap.{as_map}
 use Rattle.words.specs.Part.{part_at}
 use Rattle.head.specs.HeadLaws.{word_end}

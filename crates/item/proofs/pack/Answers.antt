@@ -1,4 +1,5 @@
-use Rattle.lists.specs.Basics.{arith, refl, rules}
+use Rattle.std.specs.Prelude.{refl}
+use Rattle.std.proofs.Common.{arith, rules}
 use Rattle.item.specs.Item.{clipped, word_says}
 use Rattle.item.proofs.pack.Goals as goal
 

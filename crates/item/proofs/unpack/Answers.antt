@@ -1,4 +1,5 @@
-use Rattle.lists.specs.Basics.{refl, rules}
+use Rattle.std.specs.Prelude.{refl}
+use Rattle.std.proofs.Common.{rules}
 use Rattle.item.specs.Item.{item_of}
 use Rattle.item.proofs.unpack.Goals as goal
 

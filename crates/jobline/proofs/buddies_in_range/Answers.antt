@@ -1,5 +1,5 @@
 -- `jobline::buddies_in_range` meets its contract: those before p pass, so the answer is that for the rest.
-use Rattle.lists.specs.Basics.{sym, ◌∙◌, arith, rules}
+use Rattle.std.proofs.Common.{sym, ◌∙◌, arith, rules}
 use Rattle.lists.specs.Lists.{allb}
 use Rattle.protocol.specs.Parts.{every_machine}
 use Rattle.jobline.specs.Passes.{buddies_in_range, buddy_passes}

@@ -1,5 +1,6 @@
 -- `jobline::buddy_of` meets its contract: branch by branch.
-use Rattle.lists.specs.Basics.{le-leb, lt-leb, eq-eqb, ne_eqb}
+use Rattle.std.proofs.Common.{le-leb, eq-eqb, ne_eqb}
+use Rattle.std.proofs.lemmas.Bool.{lt-leb}
 use Rattle.protocol.specs.{Frames.between, Job.{machines_of, job_of, has_machine, previous_machine}}
 use Rattle.jobline.proofs.buddy_of.Goals as goal
 

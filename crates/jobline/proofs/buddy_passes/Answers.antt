@@ -1,5 +1,6 @@
 -- `jobline::buddy_passes` meets its contract: a machine that the job has not passes.
-use Rattle.lists.specs.Basics.{◌∙◌, le-leb, lt-leb}
+use Rattle.std.proofs.Common.{◌∙◌, le-leb}
+use Rattle.std.proofs.lemmas.Bool.{lt-leb}
 use Rattle.protocol.specs.Job.{machines_of}
 use Rattle.jobline.specs.Passes.{buddy_passes}
 use Rattle.jobline.proofs.buddy_passes.Goals as goal

@@ -1,5 +1,5 @@
 -- `jobline::chare_byte` meets its contract: the byte at its place.
-use Rattle.lists.specs.Basics.{◌∙◌}
+use Rattle.std.proofs.Common.{◌∙◌}
 use Rattle.protocol.specs.Job.{chare_byte, machines_of}
 use Rattle.jobline.proofs.chare_byte.Goals as goal
 

@@ -1,5 +1,6 @@
 -- `jobline::chare_in_range` meets its contract: test by test.
-use Rattle.lists.specs.Basics.{le-leb, lt-leb}
+use Rattle.std.proofs.Common.{le-leb}
+use Rattle.std.proofs.lemmas.Bool.{lt-leb}
 use Rattle.protocol.specs.{Frames.between, Job.{machines_of, chares_of, chare_in_range}}
 use Rattle.jobline.proofs.chare_in_range.Goals as goal
 

@@ -1,5 +1,6 @@
 -- `jobline::chare_passes` meets its contract: a chare that the job has not passes.
-use Rattle.lists.specs.Basics.{◌∙◌, le-leb, lt-leb}
+use Rattle.std.proofs.Common.{◌∙◌, le-leb}
+use Rattle.std.proofs.lemmas.Bool.{lt-leb}
 use Rattle.protocol.specs.Job.{chares_of}
 use Rattle.jobline.specs.Passes.{chare_passes}
 use Rattle.jobline.proofs.chare_passes.Goals as goal

@@ -1,5 +1,5 @@
 -- `jobline::chares_in_range` meets its contract: those before c pass, so the answer is that for the rest.
-use Rattle.lists.specs.Basics.{sym, ◌∙◌, arith, rules}
+use Rattle.std.proofs.Common.{sym, ◌∙◌, arith, rules}
 use Rattle.lists.specs.Lists.{allb}
 use Rattle.protocol.specs.Parts.{every_chare}
 use Rattle.jobline.specs.Passes.{chares_in_range, chare_passes}

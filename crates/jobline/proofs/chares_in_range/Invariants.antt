@@ -1,4 +1,4 @@
-use Rattle.lists.specs.Basics.{◌≡◌, ◌≤◌, ◌-◌}
+use Rattle.std.specs.Prelude.{◌≡◌, ◌≤◌, ◌-◌}
 use Rattle.frames.specs.Decode.{decoded}
 use Rattle.jobline.specs.Passes.{chares_in_range, chare_passes}
 use Rattle.arrays.specs.Loops.{each}

@@ -1,5 +1,6 @@
 -- `jobline::job_in_range` meets its contract: test by test.
-use Rattle.lists.specs.Basics.{sym, ◌∙◌, le-leb, lt-leb}
+use Rattle.std.proofs.Common.{sym, ◌∙◌, le-leb}
+use Rattle.std.proofs.lemmas.Bool.{lt-leb}
 use Rattle.protocol.specs.{Frames.between, Job.{machines_of, chares_of, job_in_range}}
 use Rattle.jobline.specs.Passes.{buddies_in_range, chares_in_range}
 use Rattle.jobline.proofs.job_in_range.Goals as goal

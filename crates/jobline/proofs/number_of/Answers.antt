@@ -1,5 +1,6 @@
 -- `jobline::number_of` meets its contract: branch by branch.
-use Rattle.lists.specs.Basics.{◌∙◌, le-leb, lt-leb}
+use Rattle.std.proofs.Common.{◌∙◌, le-leb}
+use Rattle.std.proofs.lemmas.Bool.{lt-leb}
 use Rattle.protocol.specs.{Frames.between, Job.{chares_of, has_chare}}
 use Rattle.jobline.specs.Passes.{number_of}
 use Rattle.jobline.proofs.number_of.Goals as goal

@@ -1,5 +1,5 @@
 -- `lines::digit` meets its contract: the digits 0 to 9, and the capitals.
-use Rattle.lists.specs.Basics.{rules, lt-ltb, le-ltb}
+use Rattle.std.proofs.Common.{rules, lt-ltb, le-ltb}
 use Rattle.protocol.specs.Lines.{printed_digit}
 use Rattle.lines.proofs.digit.Goals as goal
 

@@ -1,5 +1,5 @@
 -- `lines::letter` meets its contract, rule by rule.
-use Rattle.lists.specs.Basics.{rules}
+use Rattle.std.proofs.Common.{rules}
 use Rattle.protocol.specs.Lines.{letter}
 use Rattle.lines.proofs.letter.Goals as goal
 

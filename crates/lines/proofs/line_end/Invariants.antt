@@ -1,4 +1,5 @@
-use Rattle.lists.specs.Basics.{◌≡◌, ◌+◌, ◌-◌, ◌≤◌, arith, rules, length, drop}
+use Rattle.std.specs.Prelude.{◌≡◌, ◌+◌, ◌-◌, ◌≤◌, length, drop}
+use Rattle.std.proofs.Common.{arith, rules}
 use Rattle.lines.specs.LineEnd.{line_end, end_here, end_later, end_nowhere}
 use Rattle.lines.proofs.line_end.Given as goal
 

@@ -1,5 +1,7 @@
 -- `lines::print` meets its contract: each answer, byte by byte.
-use Rattle.lists.specs.Basics.{[], ◌∷◌, ◌++◌, arith, rules, length-set, sets-eq}
+use Rattle.std.specs.Prelude.{[], ◌∷◌, ◌++◌}
+use Rattle.std.proofs.Common.{arith, rules, length-set}
+use Rattle.std.proofs.lemmas.List.Edits.{sets-eq}
 use Rattle.protocol.specs.{declared.Answer.TheVariants.{Accepted, Shown, Lost, Refused}, Lines.{newline, line_01, ending, line, hexadecimal, two_decimals}}
 use Rattle.lines.proofs.print.Goals as goal
 

@@ -1,4 +1,5 @@
-use Rattle.lists.specs.Basics.{refl, length-set, arith, rules}
+use Rattle.std.specs.Prelude.{refl}
+use Rattle.std.proofs.Common.{length-set, arith, rules}
 use Rattle.memory.specs.Numbers.{given}
 use Rattle.memory.proofs.give.Goals as goal
 

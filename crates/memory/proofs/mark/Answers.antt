@@ -1,4 +1,4 @@
-use Rattle.lists.specs.Basics.{arith, rules}
+use Rattle.std.proofs.Common.{arith, rules}
 use Rattle.memory.specs.{Places.MARK, View.{memory_view, mark_at, no_word}}
 use Rattle.memory.proofs.mark.Goals as goal
 

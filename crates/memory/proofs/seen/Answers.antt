@@ -1,4 +1,4 @@
-use Rattle.lists.specs.Basics.{◌∙◌, rules}
+use Rattle.std.proofs.Common.{◌∙◌, rules}
 use Rattle.protocol.specs.Window.{look}
 use Rattle.memory.proofs.seen.Goals as goal
 

@@ -1,4 +1,4 @@
-use Rattle.lists.specs.Basics.{arith, rules}
+use Rattle.std.proofs.Common.{arith, rules}
 use Rattle.memory.specs.{Places.SN, View.{memory_view, word_at, no_word}}
 use Rattle.memory.proofs.sn.Goals as goal
 

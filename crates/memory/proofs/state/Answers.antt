@@ -1,4 +1,4 @@
-use Rattle.lists.specs.Basics.{rules}
+use Rattle.std.proofs.Common.{rules}
 use Rattle.memory.specs.View.{state_at}
 use Rattle.memory.proofs.state.Goals as goal
 

@@ -1,4 +1,5 @@
-use Rattle.lists.specs.Basics.{refl, rules}
+use Rattle.std.specs.Prelude.{refl}
+use Rattle.std.proofs.Common.{rules}
 use Rattle.memory.specs.Numbers.{taken}
 use Rattle.memory.proofs.take.Goals as goal
 

@@ -1,4 +1,4 @@
-use Rattle.lists.specs.Basics.{rules}
+use Rattle.std.proofs.Common.{rules}
 use Rattle.memory.specs.View.{top_at}
 use Rattle.memory.proofs.top.Goals as goal
 

@@ -1,4 +1,4 @@
-use Rattle.lists.specs.Basics.{rules}
+use Rattle.std.proofs.Common.{rules}
 use Rattle.memory.specs.View.{window_at, no_window}
 use Rattle.memory.proofs.window.Goals as goal
 

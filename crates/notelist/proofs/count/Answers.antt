@@ -1,4 +1,5 @@
-use Rattle.lists.specs.Basics.{sym, ◌∙◌, length-map, rules}
+use Rattle.std.proofs.Common.{sym, ◌∙◌, rules}
+use Rattle.std.proofs.lemmas.List.{length-map}
 use Rattle.words.specs.Rows.{row}
 use Rattle.notelist.specs.Notes.{note_of, notes}
 use Rattle.notelist.proofs.count.Goals as goal

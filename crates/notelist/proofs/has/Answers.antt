@@ -1,4 +1,5 @@
-use Rattle.lists.specs.Basics.{◌≡◌, refl, sym, ap, ◌∙◌, ◌-◌, ◌≤◌, arith, rules, drop}
+use Rattle.std.specs.Prelude.{◌≡◌, refl, ◌-◌, ◌≤◌, drop}
+use Rattle.std.proofs.Common.{sym, ap, ◌∙◌, arith, rules}
 use Rattle.lists.specs.Lists.{anyb}
 use Rattle.protocol.specs.Packets.{same_note, has_note}
 use Rattle.item.specs.{Item.{owner_small, peer_small}, Held.{held_next, held_miss, held_end}}

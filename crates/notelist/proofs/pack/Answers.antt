@@ -1,4 +1,4 @@
-use Rattle.lists.specs.Basics.{rules}
+use Rattle.std.proofs.Common.{rules}
 use Rattle.item.specs.Item.{clipped}
 use Rattle.notelist.specs.Notes.{packed}
 use Rattle.notelist.proofs.pack.Goals as goal

@@ -1,4 +1,4 @@
-use Rattle.lists.specs.Basics.{rules}
+use Rattle.std.proofs.Common.{rules}
 use Rattle.notelist.specs.Notes.{note_of, as_note}
 use Rattle.notelist.proofs.unpack.Goals as goal
 

@@ -1,5 +1,5 @@
 -- `opening::begin` meets its contract: zeros, the head over them, the chares' states.
-use Rattle.lists.specs.Basics.{◌∙◌, arith}
+use Rattle.std.proofs.Common.{◌∙◌, arith}
 use Rattle.protocol.specs.Job.{chares_of}
 use Rattle.jobline.specs.JobLaws.{in_range}
 use Rattle.store.specs.ViewLaws.{head_length}

@@ -1,5 +1,6 @@
 -- `opening::held_of` meets its contract: below, above or among the machines.
-use Rattle.lists.specs.Basics.{le-leb, lt-leb}
+use Rattle.std.proofs.Common.{le-leb}
+use Rattle.std.proofs.lemmas.Bool.{lt-leb}
 use Rattle.protocol.specs.{Frames.between, Job.{machines_of, has_machine}}
 use Rattle.opening.proofs.held_of.Goals as goal
 

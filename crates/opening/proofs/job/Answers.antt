@@ -1,5 +1,5 @@
 -- `opening::job` meets its contract: refused at the first "no", or begun.
-use Rattle.lists.specs.Basics.{sym, ◌∙◌, rules}
+use Rattle.std.proofs.Common.{sym, ◌∙◌, rules}
 use Rattle.lists.specs.Questions.{put_all}
 use Rattle.protocol.specs.{Questions.job_questions, Step.judged}
 use Rattle.store.specs.{View.{view, tried, outcome}, Framing.{refuses, accepts}}

@@ -1,5 +1,5 @@
 -- `opening::start_chares` meets its contract: those before c have started.
-use Rattle.lists.specs.Basics.{ap, ◌∙◌, arith, rules}
+use Rattle.std.proofs.Common.{ap, ◌∙◌, arith, rules}
 use Rattle.opening.specs.States.{started, below_start, below_more, below_end}
 use Rattle.opening.proofs.start_chares.Goals as goal
 

@@ -1,4 +1,4 @@
-use Rattle.lists.specs.Basics.{◌≡◌, ◌+◌, ◌-◌, ◌≤◌, length}
+use Rattle.std.specs.Prelude.{◌≡◌, ◌+◌, ◌-◌, ◌≤◌, length}
 use Rattle.store.specs.{Places.STORE, View.view}
 use Rattle.opening.specs.States.{below}
 use Rattle.opening.proofs.start_chares.Given as goal

@@ -1,5 +1,5 @@
 -- `opening::word_of` meets its contract: by the part.
-use Rattle.lists.specs.Basics.{◌∙◌, eq-eqb, ne_eqb}
+use Rattle.std.proofs.Common.{◌∙◌, eq-eqb, ne_eqb}
 use Rattle.opening.specs.Words.{word_of}
 use Rattle.opening.proofs.word_of.Goals as goal
 

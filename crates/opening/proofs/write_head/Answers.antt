@@ -1,5 +1,5 @@
 -- `opening::write_head` meets its contract: the numbers, then five parts.
-use Rattle.lists.specs.Basics.{◌∙◌}
+use Rattle.std.proofs.Common.{◌∙◌}
 use Rattle.opening.specs.Words.{head_written}
 use Rattle.opening.proofs.write_head.Goals as goal
 

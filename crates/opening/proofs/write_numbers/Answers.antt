@@ -1,5 +1,5 @@
 -- `opening::write_numbers` meets its contract: three words over zeros.
-use Rattle.lists.specs.Basics.{arith, length-set}
+use Rattle.std.proofs.Common.{arith, length-set}
 use Rattle.opening.specs.Words.{numbered}
 use Rattle.opening.proofs.write_numbers.Goals as goal
 

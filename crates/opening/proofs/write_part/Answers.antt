@@ -1,5 +1,6 @@
 -- `opening::write_part` meets its contract: k words are written.
-use Rattle.lists.specs.Basics.{refl, arith, rules, length-set}
+use Rattle.std.specs.Prelude.{refl}
+use Rattle.std.proofs.Common.{arith, rules, length-set}
 use Rattle.head.specs.Cells.{Filled, fill_more, fill_end}
 use Rattle.opening.proofs.write_part.Goals as goal
 

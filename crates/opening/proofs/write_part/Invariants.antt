@@ -1,4 +1,4 @@
-use Rattle.lists.specs.Basics.{◌≡◌, ◌-◌, ◌≤◌, length}
+use Rattle.std.specs.Prelude.{◌≡◌, ◌-◌, ◌≤◌, length}
 use Rattle.frames.specs.Decode.{decoded}
 use Rattle.head.specs.Cells.{Filled}
 use Rattle.opening.specs.Words.{word_of}

@@ -1,5 +1,5 @@
 -- `opening::write_state` meets its contract: one word.
-use Rattle.lists.specs.Basics.{rules}
+use Rattle.std.proofs.Common.{rules}
 use Rattle.opening.specs.States.{state_set}
 use Rattle.opening.proofs.write_state.Goals as goal
 

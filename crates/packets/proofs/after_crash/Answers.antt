@@ -1,5 +1,5 @@
 -- `packets::after_crash` meets its contract: the packets that stay are those that survive.
-use Rattle.lists.specs.Basics.{rules}
+use Rattle.std.proofs.Common.{rules}
 use Rattle.packets.specs.Stays.{stays, is_kept}
 use Rattle.packets.proofs.after_crash.Goals as goal
 

@@ -1,5 +1,5 @@
 -- `packets::after_restart` meets its contract: the packets that stay are those that go elsewhere.
-use Rattle.lists.specs.Basics.{rules}
+use Rattle.std.proofs.Common.{rules}
 use Rattle.packets.specs.Stays.{stays, is_kept}
 use Rattle.packets.proofs.after_restart.Goals as goal
 

@@ -1,5 +1,5 @@
 -- `packets::body` meets its contract: variant by variant.
-use Rattle.lists.specs.Basics.{rules}
+use Rattle.std.proofs.Common.{rules}
 use Rattle.packets.specs.Packing.{body_of}
 use Rattle.packets.proofs.body.Goals as goal
 

@@ -1,5 +1,5 @@
 -- `packets::content` meets its contract: variant by variant.
-use Rattle.lists.specs.Basics.{ne_eqb}
+use Rattle.std.proofs.Common.{ne_eqb}
 use Rattle.packets.specs.Words.{granted, carried, content_of}
 use Rattle.packets.proofs.content.Goals as goal
 

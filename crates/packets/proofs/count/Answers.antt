@@ -1,5 +1,6 @@
 -- `packets::count` meets its contract: a packet a word.
-use Rattle.lists.specs.Basics.{sym, ◌∙◌, length-map, rules}
+use Rattle.std.proofs.Common.{sym, ◌∙◌, rules}
+use Rattle.std.proofs.lemmas.List.{length-map}
 use Rattle.words.specs.Rows.{row}
 use Rattle.packets.specs.Words.{unpacked, packets}
 use Rattle.packets.proofs.count.Goals as goal

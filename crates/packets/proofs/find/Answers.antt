@@ -1,5 +1,6 @@
 -- `packets::find` meets its contract: i words have another name.
-use Rattle.lists.specs.Basics.{◌≡◌, sym, ap, ◌∙◌, ◌+◌, ◌-◌, ◌≤◌, arith, rules, drop}
+use Rattle.std.specs.Prelude.{◌≡◌, ◌+◌, ◌-◌, ◌≤◌, drop}
+use Rattle.std.proofs.Common.{sym, ap, ◌∙◌, arith, rules}
 use Rattle.arrays.specs.Place.{place, place_start}
 use Rattle.words.specs.Rows.{row, row_at, seek_hit, seek_miss, seek_end}
 use Rattle.packets.specs.{Words.unpacked, View.{sought_at, sought_none}, Names.{has_name, by_name, nobody}}

@@ -1,5 +1,5 @@
 -- `packets::has_name` meets its contract: the name in one number, then the kind.
-use Rattle.lists.specs.Basics.{eq-eqb, ne_eqb, rules}
+use Rattle.std.proofs.Common.{eq-eqb, ne_eqb, rules}
 use Rattle.packets.specs.Names.{has_name}
 use Rattle.packets.proofs.has_name.Goals as goal
 

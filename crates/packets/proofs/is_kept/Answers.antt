@@ -1,5 +1,5 @@
 -- `packets::is_kept` meets its contract: each way to leave has its test.
-use Rattle.lists.specs.Basics.{rules}
+use Rattle.std.proofs.Common.{rules}
 use Rattle.packets.specs.Stays.{is_kept}
 use Rattle.packets.proofs.is_kept.Goals as goal
 

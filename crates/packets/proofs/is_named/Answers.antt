@@ -1,5 +1,5 @@
 -- `packets::is_named` meets its contract: kind, sender, receiver and SN, one after the other.
-use Rattle.lists.specs.Basics.{eq-eqb, ne_eqb, rules}
+use Rattle.std.proofs.Common.{eq-eqb, ne_eqb, rules}
 use Rattle.protocol.specs.Packets.{is_named}
 use Rattle.packets.specs.Words.{as_packet, unpacked}
 use Rattle.packets.proofs.is_named.Goals as goal

@@ -1,5 +1,6 @@
 -- `packets::kind` meets its contract: a kind that no packet has counts as ACK.
-use Rattle.lists.specs.Basics.{refl, arith, rules}
+use Rattle.std.specs.Prelude.{refl}
+use Rattle.std.proofs.Common.{arith, rules}
 use Rattle.packets.specs.Names.{kind_none, kind_shown}
 use Rattle.packets.proofs.kind.Goals as goal
 

@@ -1,5 +1,5 @@
 -- `packets::leave` meets its contract: a word less.
-use Rattle.lists.specs.Basics.{rules}
+use Rattle.std.proofs.Common.{rules}
 use Rattle.words.specs.{Rows.row, Becomes.becomes_mapped, Mapped.map_without}
 use Rattle.packets.specs.Words.{unpacked, packets}
 use Rattle.packets.proofs.leave.Goals as goal

@@ -1,5 +1,5 @@
 -- `packets::leave_all` meets its contract: the packets that are kept are those of other names.
-use Rattle.lists.specs.Basics.{rules}
+use Rattle.std.proofs.Common.{rules}
 use Rattle.packets.specs.Stays.{is_kept}
 use Rattle.packets.proofs.leave_all.Goals as goal
 

@@ -1,5 +1,5 @@
 -- `packets::made` meets its contract: field by field.
-use Rattle.lists.specs.Basics.{refl}
+use Rattle.std.specs.Prelude.{refl}
 use Rattle.packets.specs.Packing.{bare}
 use Rattle.packets.proofs.made.Goals as goal
 

@@ -1,5 +1,5 @@
 -- `packets::pack` meets its contract: the fields of the content, and the name.
-use Rattle.lists.specs.Basics.{rules}
+use Rattle.std.proofs.Common.{rules}
 use Rattle.packets.specs.Packing.{packed}
 use Rattle.packets.proofs.pack.Goals as goal
 

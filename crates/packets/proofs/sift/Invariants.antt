@@ -1,4 +1,5 @@
-use Rattle.lists.specs.Basics.{Bool, List, ℕ, ◌-◌, refl, sym, ◌∙◌, arith, rules}
+use Rattle.std.specs.Prelude.{Bool, List, ℕ, ◌-◌, refl}
+use Rattle.std.proofs.Common.{sym, ◌∙◌, arith, rules}
 use Rattle.words.specs.Sift.{Sifting, sift_start, sift_keep, sift_skip, sift_some, sift_all}
 use Rattle.item.specs.{declared.Item.Item, Item.{item_of, items}, Both.both_kept}
 use Rattle.head.specs.Head.{job_of}

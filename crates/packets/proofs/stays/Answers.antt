@@ -1,5 +1,6 @@
 -- `packets::stays` meets its contract: what each branch finds.
-use Rattle.lists.specs.Basics.{sym, ◌∙◌, not-true, not-false, eq-eqb, ne_eqb, rules}
+use Rattle.std.proofs.Common.{sym, ◌∙◌, eq-eqb, ne_eqb, rules}
+use Rattle.std.proofs.lemmas.Bool.{not-true, not-false}
 use Rattle.lists.specs.Tests.{either}
 use Rattle.packets.specs.Stays.{stays_is}
 use Rattle.packets.proofs.stays.Goals as goal

@@ -1,5 +1,5 @@
 -- `packets::unpack` meets its contract: by what `item::unpack` and `content` ensure.
-use Rattle.lists.specs.Basics.{rules}
+use Rattle.std.proofs.Common.{rules}
 use Rattle.packets.specs.Words.{as_packet, unpacked}
 use Rattle.packets.proofs.unpack.Goals as goal
 

@@ -1,6 +1,8 @@
 -- `decide` meets its contract: by the laws of `Answers`, one for each way the tests go. Assumes nothing.
 use borrow.Author.Rules.{rules}
-use Rattle.lists.specs.Basics.{◌≡◌, refl, sym, ◌∙◌, inl, inr, arith, length, eqb-true, eqb-false}
+use Rattle.std.specs.Prelude.{◌≡◌, refl, length}
+use Rattle.std.proofs.Common.{sym, ◌∙◌, inl, inr, arith, eqb-true}
+use Rattle.std.proofs.lemmas.Bool.{eqb-false}
 use Rattle.lists.specs.Tests.{true_not_false}
 use Rattle.precedes.specs.{Precedes.{Name, bad_place, Right}, Tables.held, Reading.{Reading, read_all, reading_falls}, Answers.{whole_unmarked, found_low, right_unknown, right_yes, right_no}}
 use Rattle.precedes.proofs.decide.Goals as goal

@@ -1,6 +1,6 @@
 -- `push` meets its contract. Assumes nothing.
 use borrow.Author.Rules.{rules}
-use Rattle.lists.specs.Basics.{sym, arith}
+use Rattle.std.proofs.Common.{sym, arith}
 use Rattle.precedes.specs.Tables.{push_full, push_past, push_in}
 use Rattle.precedes.proofs.push.Goals as goal
 

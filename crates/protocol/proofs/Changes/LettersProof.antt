@@ -1,5 +1,7 @@
 -- The letters dropped are document 01's lines: no answer's line has a newline in it, and no refusal's line begins with 00.
-use Rattle.lists.specs.Basics.{◌≡◌, refl, sym, ap, ◌∙◌, Bool, true, false, not, ◌&&◌, List, [], ◌∷◌, ◌++◌, map, Option, some, none, ℕ, zero, suc, ◌<◌, ◌/◌, ◌%◌, arith, ltb, ne_eqb}
+use Rattle.std.specs.Prelude.{◌≡◌, refl, Bool, true, false, not, ◌&&◌, List, [], ◌∷◌, ◌++◌, map, ℕ, zero, suc, ◌<◌, ◌/◌, ◌%◌, ltb}
+use Rattle.std.proofs.Common.{sym, ap, ◌∙◌, arith, ne_eqb}
+use Rattle.std.proofs.Math.Option.{Option, some, none}
 use Rattle.lists.specs.Tests.{either, and_l, and_r, not_true}
 use Rattle.lists.specs.Questions.{Question, ◌asks◌, put_all}
 use Rattle.protocol.specs.declared.Entry.{Entry}

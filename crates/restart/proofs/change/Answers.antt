@@ -1,5 +1,6 @@
 -- `change` sets the status, then memories and targets, then the wire.
-use Rattle.lists.specs.Basics.{◌+◌, ◌∙◌, length-set, arith, rules}
+use Rattle.std.specs.Prelude.{◌+◌}
+use Rattle.std.proofs.Common.{◌∙◌, length-set, arith, rules}
 use Rattle.head.specs.Head.{STATUS, as_status}
 use Rattle.store.specs.ViewLaws.{status_set, wire_put}
 use Rattle.restart.specs.Whole.{back}

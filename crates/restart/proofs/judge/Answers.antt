@@ -1,5 +1,5 @@
 -- `judge` puts four questions.
-use Rattle.lists.specs.Basics.{◌∙◌}
+use Rattle.std.proofs.Common.{◌∙◌}
 use Rattle.protocol.specs.Questions.{is_machine}
 use Rattle.store.specs.View.{view}
 use Rattle.restart.specs.Judged.{asked}

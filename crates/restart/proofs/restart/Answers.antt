@@ -1,5 +1,5 @@
 -- `restart` refuses before the store is changed, or changes it.
-use Rattle.lists.specs.Basics.{arith, rules}
+use Rattle.std.proofs.Common.{arith, rules}
 use Rattle.restart.specs.Whole.{refuse_first, machine, refuse_tables, refuse_wire, accept}
 use Rattle.restart.proofs.restart.Goals as goal
 

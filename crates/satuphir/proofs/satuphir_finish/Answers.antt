@@ -1,5 +1,5 @@
 -- `satuphir_finish` gives what `finish` gives, as a number; then no line is under way, or the one that was.
-use Rattle.lists.specs.Basics.{◌∙◌, rules}
+use Rattle.std.proofs.Common.{◌∙◌, rules}
 use mathlib.Core.Logic.{⊎_elim}
 use Rattle.satuphir.proofs.satuphir_finish.Goals as goal
 

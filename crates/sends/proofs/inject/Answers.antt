@@ -1,4 +1,4 @@
-use Rattle.lists.specs.Basics.{arith, rules}
+use Rattle.std.proofs.Common.{arith, rules}
 use Rattle.sends.specs.Inject.{inject_refused, index, hops_in, not_sent, is_sent}
 use Rattle.sends.proofs.inject.Goals as goal
 

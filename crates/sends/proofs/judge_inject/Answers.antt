@@ -1,4 +1,4 @@
-use Rattle.lists.specs.Basics.{◌∙◌}
+use Rattle.std.proofs.Common.{◌∙◌}
 use Rattle.protocol.specs.Questions.{is_chare}
 use Rattle.store.specs.View.{view}
 use Rattle.sends.specs.Inject.{desk_questions, not_put}

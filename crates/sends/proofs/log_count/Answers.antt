@@ -1,4 +1,4 @@
-use Rattle.lists.specs.Basics.{arith}
+use Rattle.std.proofs.Common.{arith}
 use Rattle.sends.specs.Reading.{log_top}
 use Rattle.memory.specs.View.{log_part}
 use Rattle.sends.proofs.log_count.Goals as goal

@@ -1,4 +1,4 @@
-use Rattle.lists.specs.Basics.{rules}
+use Rattle.std.proofs.Common.{rules}
 use Rattle.store.specs.ViewLaws.{span, live_at}
 use Rattle.sends.proofs.logged.Goals as goal
 

@@ -1,4 +1,4 @@
-use Rattle.lists.specs.Basics.{sym, ◌∙◌}
+use Rattle.std.proofs.Common.{sym, ◌∙◌}
 use Rattle.sends.specs.WorkFrame.{none_next}
 use Rattle.tickets.specs.Table.{found_entry}
 use Rattle.memory.specs.View.{table_part}

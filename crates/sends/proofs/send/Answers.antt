@@ -1,4 +1,4 @@
-use Rattle.lists.specs.Basics.{arith, rules}
+use Rattle.std.proofs.Common.{arith, rules}
 use Rattle.store.specs.ViewLaws.{span}
 use Rattle.sends.specs.Stored.{sent_at}
 use Rattle.sends.proofs.send.Goals as goal

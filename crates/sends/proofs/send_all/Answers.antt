@@ -1,4 +1,5 @@
-use Rattle.lists.specs.Basics.{◌-◌, eq-eqb, ne_eqb}
+use Rattle.std.specs.Prelude.{◌-◌}
+use Rattle.std.proofs.Common.{eq-eqb, ne_eqb}
 use Rattle.protocol.specs.Work.{receivers, port}
 use Rattle.sends.specs.{Made.{none_made, by_ports}, Reading.job_at}
 use Rattle.head.specs.Head.{job_of}

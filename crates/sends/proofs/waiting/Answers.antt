@@ -1,4 +1,4 @@
-use Rattle.lists.specs.Basics.{arith}
+use Rattle.std.proofs.Common.{arith}
 use Rattle.sends.specs.Reading.{packets_top}
 use Rattle.store.specs.ViewLaws.{wire_at}
 use Rattle.sends.proofs.waiting.Goals as goal

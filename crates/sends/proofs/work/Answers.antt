@@ -1,4 +1,4 @@
-use Rattle.lists.specs.Basics.{arith, sym, ap, ◌∙◌, rules}
+use Rattle.std.proofs.Common.{arith, sym, ap, ◌∙◌, rules}
 use Rattle.store.specs.ViewLaws.{span}
 use Rattle.sends.specs.WorkFrame.{frame_refused, index, next_fits, nothing_next, next_worked}
 use Rattle.tickets.specs.Table.{found_entry}

@@ -1,4 +1,5 @@
-use Rattle.lists.specs.Basics.{arith, refl}
+use Rattle.std.specs.Prelude.{refl}
+use Rattle.std.proofs.Common.{arith}
 use Rattle.store.specs.ViewLaws.{span}
 use Rattle.sends.specs.WorkAt.{not_worked, all_sent, undone}
 use Rattle.sends.proofs.work_at.Goals as goal

@@ -1,4 +1,6 @@
-use Rattle.lists.specs.Basics.{◌≡◌, sym, ◌∙◌, ◌-◌, ◌≤◌, arith, rules, not-true, not-false}
+use Rattle.std.specs.Prelude.{◌≡◌, ◌-◌, ◌≤◌}
+use Rattle.std.proofs.Common.{sym, ◌∙◌, arith, rules}
+use Rattle.std.proofs.lemmas.Bool.{not-true, not-false}
 use Rattle.lists.specs.Lists.{allb}
 use Rattle.protocol.specs.{Parts.every_chare, Restart.is_done}
 use Rattle.lists.specs.Counting.{counting}

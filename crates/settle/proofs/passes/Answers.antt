@@ -1,5 +1,6 @@
 -- `settle::passes` meets its contract: a chare elsewhere passes.
-use Rattle.lists.specs.Basics.{sym, ◌∙◌, rules, not-true, not-false}
+use Rattle.std.proofs.Common.{sym, ◌∙◌, rules}
+use Rattle.std.proofs.lemmas.Bool.{not-true, not-false}
 use Rattle.store.specs.View.{view}
 use Rattle.settle.specs.Done.{passes}
 use Rattle.settle.proofs.passes.Goals as goal

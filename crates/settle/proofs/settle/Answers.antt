@@ -1,5 +1,6 @@
 -- `settle::settle` meets its contract: the machines from p on are still to settle.
-use Rattle.lists.specs.Basics.{◌≡◌, ◌+◌, ◌-◌, ◌≤◌, arith, rules, length}
+use Rattle.std.specs.Prelude.{◌≡◌, ◌+◌, ◌-◌, ◌≤◌, length}
+use Rattle.std.proofs.Common.{arith, rules}
 use Rattle.lists.specs.Counting.{counting}
 use Rattle.protocol.specs.{Parts.job_machines, Restart.{settle, settle_all}}
 use Rattle.store.specs.{Places.STORE, View.view}

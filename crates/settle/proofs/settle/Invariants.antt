@@ -1,4 +1,5 @@
-use Rattle.lists.specs.Basics.{◌≡◌, ◌+◌, ◌-◌, ◌≤◌, arith, rules, length}
+use Rattle.std.specs.Prelude.{◌≡◌, ◌+◌, ◌-◌, ◌≤◌, length}
+use Rattle.std.proofs.Common.{arith, rules}
 use Rattle.lists.specs.Counting.{counting}
 use Rattle.protocol.specs.{Parts.job_machines, Restart.{settle, settle_all}}
 use Rattle.store.specs.{Places.STORE, View.view}

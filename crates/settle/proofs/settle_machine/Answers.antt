@@ -1,5 +1,6 @@
 -- `settle::settle_machine` meets its contract: done, or not.
-use Rattle.lists.specs.Basics.{sym, ◌∙◌, ◌+◌, arith, rules, length-set}
+use Rattle.std.specs.Prelude.{◌+◌}
+use Rattle.std.proofs.Common.{sym, ◌∙◌, arith, rules, length-set}
 use Rattle.protocol.specs.Restart.{settle_machine}
 use Rattle.head.specs.Head.{STATUS, as_status}
 use Rattle.store.specs.ViewLaws.{status_set}

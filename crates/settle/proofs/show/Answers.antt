@@ -1,5 +1,6 @@
 -- `settle::show` meets its contract: refused by the first "no", or what the memory says.
-use Rattle.lists.specs.Basics.{◌≡◌, ◌+◌, ◌-◌, arith, rules}
+use Rattle.std.specs.Prelude.{◌≡◌, ◌+◌, ◌-◌}
+use Rattle.std.proofs.Common.{arith, rules}
 use Rattle.memory.specs.Places.{MEMORY}
 use Rattle.store.specs.Places.{live_from}
 use Rattle.settle.specs.Shown.{show_refused, chare_in, show_done}

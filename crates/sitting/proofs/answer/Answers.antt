@@ -1,5 +1,6 @@
 -- `answer`: the invariant is that the reader has read the piece up to `at`. Each turn takes at least a byte of it, or it is the last.
-use Rattle.lists.specs.Basics.{List, ◌≡◌, refl, sym, ap, ◌∙◌, ℕ, ◌+◌, ◌-◌, ◌≤◌, arith, length, take, drop, length-take, length-drop, length-take-le, take_all, take-add, rules}
+use Rattle.std.specs.Prelude.{List, ◌≡◌, refl, ℕ, ◌+◌, ◌-◌, ◌≤◌, length, take, drop}
+use Rattle.std.proofs.Common.{sym, ap, ◌∙◌, arith, length-take, length-drop, length-take-le, take_all, take-add, rules}
 use Rattle.lists.specs.Tests.{true_not_false}
 use Rattle.transcript.specs.{Reading.{Reading, read_all}, View.reading, Pieces.read_append, Ends.{fed_fits, fed_taken}}
 use Rattle.sitting.proofs.answer.Goals as goal

@@ -1,5 +1,6 @@
 -- `end` is safe.
-use Rattle.lists.specs.Basics.{sym, ◌≤◌, arith, length, length-take-le, rules}
+use Rattle.std.specs.Prelude.{◌≤◌, length}
+use Rattle.std.proofs.Common.{sym, arith, length-take-le, rules}
 use Rattle.transcript.specs.Ends.{ended_fits}
 use Rattle.sitting.proofs.end.Goals as goal
 

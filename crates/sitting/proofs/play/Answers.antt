@@ -1,5 +1,6 @@
 -- `play`: while the input goes on, the reader has read some bytes. It ends: the measure is the number of turns that are left.
-use Rattle.lists.specs.Basics.{◌≡◌, refl, arith, length, [], rules}
+use Rattle.std.specs.Prelude.{◌≡◌, refl, length, []}
+use Rattle.std.proofs.Common.{arith, rules}
 use mathlib.Core.Logic.{inl}
 use Rattle.store.specs.View.{view}
 use Rattle.transcript.specs.{Reading.{read_all, within}, View.reading}

@@ -1,4 +1,5 @@
-use Rattle.lists.specs.Basics.{◌≡◌, refl, arith, length, [], rules}
+use Rattle.std.specs.Prelude.{◌≡◌, refl, length, []}
+use Rattle.std.proofs.Common.{arith, rules}
 use mathlib.Core.Logic.{inl}
 use Rattle.store.specs.View.{view}
 use Rattle.transcript.specs.{Reading.{read_all, within}, View.reading}

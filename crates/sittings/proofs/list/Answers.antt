@@ -1,5 +1,6 @@
 -- `list` is safe.
-use Rattle.lists.specs.Basics.{sym, ◌≤◌, arith, length, length-take-le, rules}
+use Rattle.std.specs.Prelude.{◌≤◌, length}
+use Rattle.std.proofs.Common.{sym, arith, length-take-le, rules}
 use Rattle.transcript.specs.Ends.{whole_fits}
 use Rattle.sittings.proofs.list.Goals as goal
 

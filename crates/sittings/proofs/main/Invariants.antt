@@ -1,4 +1,5 @@
-use Rattle.lists.specs.Basics.{◌-◌, rules}
+use Rattle.std.specs.Prelude.{◌-◌}
+use Rattle.std.proofs.Common.{rules}
 use Rattle.sittings.proofs.main.Given as goal
 
 abbrev pub invariant-loop-i : goal.invariant-loop-i

@@ -1,5 +1,5 @@
 -- `store::last_sn` meets its contract: the sender's memory has it.
-use Rattle.lists.specs.Basics.{rules}
+use Rattle.std.proofs.Common.{rules}
 use Rattle.store.specs.ViewLaws.{span, live_at}
 use Rattle.store.proofs.last_sn.Goals as goal
 

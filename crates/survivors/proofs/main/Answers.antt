@@ -1,5 +1,5 @@
 -- `main` is safe: what is read lies within the one buffer, what is written within the other.
-use Rattle.lists.specs.Basics.{sym, length-take-le, rules}
+use Rattle.std.proofs.Common.{sym, length-take-le, rules}
 use Rattle.arrays.specs.Copies.{wrote_le}
 use Rattle.survivors.proofs.main.Goals as goal
 

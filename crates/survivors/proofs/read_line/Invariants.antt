@@ -1,4 +1,5 @@
-use Rattle.lists.specs.Basics.{◌≡◌, ◌-◌, ◌≤◌, length, rules}
+use Rattle.std.specs.Prelude.{◌≡◌, ◌-◌, ◌≤◌, length}
+use Rattle.std.proofs.Common.{rules}
 use Rattle.survivors.proofs.read_line.Given as goal
 
 abbrev pub invariant-loop-n : goal.invariant-loop-n

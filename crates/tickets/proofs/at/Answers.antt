@@ -1,4 +1,4 @@
-use Rattle.lists.specs.Basics.{sym, ap, ◌∙◌}
+use Rattle.std.proofs.Common.{sym, ap, ◌∙◌}
 use Rattle.tickets.specs.{Fits.entry_at, Table.entry_of}
 use Rattle.tickets.proofs.at.Goals as goal
 

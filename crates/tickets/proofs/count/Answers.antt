@@ -1,4 +1,4 @@
-use Rattle.lists.specs.Basics.{◌∙◌}
+use Rattle.std.proofs.Common.{◌∙◌}
 use Rattle.tickets.specs.Fits.{count_is}
 use Rattle.tickets.proofs.count.Goals as goal
 

@@ -1,4 +1,4 @@
-use Rattle.lists.specs.Basics.{arith, rules}
+use Rattle.std.proofs.Common.{arith, rules}
 use Rattle.tickets.specs.Enter.{enter_double, enter_full, enter_room}
 use Rattle.tickets.proofs.enter_once.Goals as goal
 

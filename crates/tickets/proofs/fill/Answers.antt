@@ -1,4 +1,5 @@
-use Rattle.lists.specs.Basics.{arith, ◌%◌, ◌∙◌, ap, rules}
+use Rattle.std.specs.Prelude.{◌%◌}
+use Rattle.std.proofs.Common.{arith, ◌∙◌, ap, rules}
 use Rattle.protocol.specs.Tickets.{for_message, fill, filled}
 use Rattle.item.specs.Both.{both_changed, both_same}
 use Rattle.tickets.specs.{Table.{entry_of, as_entry, packed, entries}, EntryLaws.{by_name, packed_fill}}

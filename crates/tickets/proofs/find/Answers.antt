@@ -1,4 +1,5 @@
-use Rattle.lists.specs.Basics.{arith, sym, ◌∙◌, ap, some, rules}
+use Rattle.std.proofs.Common.{arith, sym, ◌∙◌, ap, rules}
+use Rattle.std.proofs.Math.Option.{some}
 use Rattle.protocol.specs.Tickets.{for_message, entry}
 use Rattle.words.specs.Mapped.{find_at, find_no}
 use Rattle.tickets.specs.{Table.{entry_of, entries, found_entry}, EntryLaws.by_name}

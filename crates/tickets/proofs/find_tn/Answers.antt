@@ -1,4 +1,6 @@
-use Rattle.lists.specs.Basics.{arith, some, refl, sym, ap, ◌∙◌, eq-eqb, ne_eqb, rules}
+use Rattle.std.specs.Prelude.{refl}
+use Rattle.std.proofs.Common.{arith, sym, ap, ◌∙◌, eq-eqb, ne_eqb, rules}
+use Rattle.std.proofs.Math.Option.{some}
 use Rattle.item.specs.Held.{held_next, held_end}
 use Rattle.tickets.specs.Table.{entry_of, as_entry, entries, found_entry}
 use Rattle.protocol.specs.Tickets.{has_tn}

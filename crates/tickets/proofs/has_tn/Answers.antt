@@ -1,4 +1,5 @@
-use Rattle.lists.specs.Basics.{arith, refl, sym, ap, ◌∙◌, eq-eqb, ne_eqb, rules}
+use Rattle.std.specs.Prelude.{refl}
+use Rattle.std.proofs.Common.{arith, sym, ap, ◌∙◌, eq-eqb, ne_eqb, rules}
 use Rattle.item.specs.Held.{held_next, held_miss, held_end}
 use Rattle.tickets.specs.Table.{entry_of, as_entry, entries}
 use Rattle.protocol.specs.Tickets.{has_tn}

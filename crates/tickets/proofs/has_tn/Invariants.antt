@@ -1,4 +1,4 @@
-use Rattle.lists.specs.Basics.{drop, ◌-◌, ◌≤◌, ◌≡◌}
+use Rattle.std.specs.Prelude.{drop, ◌-◌, ◌≤◌, ◌≡◌}
 use Rattle.tickets.specs.Table.{entries}
 use Rattle.protocol.specs.Tickets.{has_tn}
 use Rattle.lists.specs.Lists.{anyb}

@@ -1,4 +1,5 @@
-use Rattle.lists.specs.Basics.{arith, refl, sym, ap, ◌∙◌, rules}
+use Rattle.std.specs.Prelude.{refl}
+use Rattle.std.proofs.Common.{arith, sym, ap, ◌∙◌, rules}
 use Rattle.item.specs.Held.{held_end}
 use Rattle.tickets.specs.{Table.{entry_of, entries}, Holes.highest_next}
 use Rattle.protocol.specs.Tickets.{highest}

@@ -1,4 +1,4 @@
-use Rattle.lists.specs.Basics.{drop, ◌-◌, ◌≤◌, ◌≡◌}
+use Rattle.std.specs.Prelude.{drop, ◌-◌, ◌≤◌, ◌≡◌}
 use Rattle.tickets.specs.{Table.{entries}}
 use Rattle.protocol.specs.Tickets.{highest}
 use Rattle.tickets.proofs.highest.Given as goal

@@ -1,4 +1,5 @@
-use Rattle.lists.specs.Basics.{sym, ◌∙◌, arith, rules, not-true, not-false}
+use Rattle.std.proofs.Common.{sym, ◌∙◌, arith, rules}
+use Rattle.std.proofs.lemmas.Bool.{not-true, not-false}
 use Rattle.tickets.specs.{Table.{found_hole}, Holes.{hole_start, hole_next, no_hole}}
 use Rattle.tickets.proofs.lowest_hole.Goals as goal
 

@@ -1,4 +1,4 @@
-use Rattle.lists.specs.Basics.{◌≡◌, ◌-◌, ◌≤◌}
+use Rattle.std.specs.Prelude.{◌≡◌, ◌-◌, ◌≤◌}
 use Rattle.protocol.specs.Tickets.{lowest_hole, first_free}
 use Rattle.tickets.specs.{Table.{entries}}
 use Rattle.tickets.proofs.lowest_hole.Given as goal

@@ -1,4 +1,5 @@
-use Rattle.lists.specs.Basics.{sym, ap, ◌∙◌, ◌+◌}
+use Rattle.std.specs.Prelude.{◌+◌}
+use Rattle.std.proofs.Common.{sym, ap, ◌∙◌}
 use Rattle.protocol.specs.Tickets.{next_tn, hole_or}
 use Rattle.tickets.specs.Table.{found_hole}
 use Rattle.tickets.proofs.next_tn.Goals as goal

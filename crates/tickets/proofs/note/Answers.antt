@@ -1,4 +1,4 @@
-use Rattle.lists.specs.Basics.{ap, ◌∙◌, arith, rules}
+use Rattle.std.proofs.Common.{ap, ◌∙◌, arith, rules}
 use Rattle.protocol.specs.Tickets.{for_message, mark_noted}
 use Rattle.item.specs.Both.{both_changed, both_same}
 use Rattle.tickets.specs.{Table.{entry_of, as_entry, packed, entries}, EntryLaws.{by_name, packed_note}}

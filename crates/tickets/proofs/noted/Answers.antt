@@ -1,4 +1,4 @@
-use Rattle.lists.specs.Basics.{◌∙◌, ap}
+use Rattle.std.proofs.Common.{◌∙◌, ap}
 use Rattle.tickets.specs.Table.{packed}
 use Rattle.protocol.specs.Tickets.{mark_noted}
 use Rattle.tickets.proofs.noted.Goals as goal

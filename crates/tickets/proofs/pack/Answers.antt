@@ -1,4 +1,4 @@
-use Rattle.lists.specs.Basics.{◌≡◌}
+use Rattle.std.specs.Prelude.{◌≡◌}
 use Rattle.tickets.specs.EntryLaws.{item_says}
 use Rattle.words.specs.Fields.{bit}
 use Rattle.tickets.proofs.pack.Goals as goal

@@ -1,4 +1,4 @@
-use Rattle.lists.specs.Basics.{◌∙◌, arith, lt-ltb, le-ltb}
+use Rattle.std.proofs.Common.{◌∙◌, arith, lt-ltb, le-ltb}
 use Rattle.words.specs.Sift.{sift_start, sift_keep, sift_skip, sift_some, sift_all}
 use Rattle.protocol.specs.{Checkpoint.above_height, Tickets.mark_noted}
 use Rattle.item.specs.{Item.{item_of, items}, Both.both_sifted}

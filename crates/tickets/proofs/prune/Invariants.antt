@@ -1,4 +1,4 @@
-use Rattle.lists.specs.Basics.{Bool, ◌-◌, ℕ}
+use Rattle.std.specs.Prelude.{Bool, ◌-◌, ℕ}
 use Rattle.words.specs.Sift.{Sifting}
 use Rattle.protocol.specs.{Checkpoint.above_height, Tickets.mark_noted}
 use Rattle.item.specs.{declared.Item.Item, Item.{item_of}}

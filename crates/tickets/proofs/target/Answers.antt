@@ -1,4 +1,4 @@
-use Rattle.lists.specs.Basics.{sym, ap, ◌∙◌, arith}
+use Rattle.std.proofs.Common.{sym, ap, ◌∙◌, arith}
 use Rattle.protocol.specs.Restart.{below_hole}
 use Rattle.tickets.specs.{Table.found_hole, Holes.hole_above}
 use Rattle.tickets.proofs.target.Goals as goal

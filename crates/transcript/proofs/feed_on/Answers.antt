@@ -1,5 +1,6 @@
 -- `feed_on`: the invariant is that what was taken so far is read, and its answers written.
-use Rattle.lists.specs.Basics.{◌++◌, ◌≡◌, sym, ap, ◌∙◌, ◌+◌, ◌-◌, ◌≤◌, ◌<◌, arith, rules, length, take, drop, length-drop, length-take-le, take_all}
+use Rattle.std.specs.Prelude.{◌++◌, ◌≡◌, ◌+◌, ◌-◌, ◌≤◌, ◌<◌, length, take, drop}
+use Rattle.std.proofs.Common.{sym, ap, ◌∙◌, arith, rules, length-drop, length-take-le, take_all}
 use Rattle.store.specs.{Places.STORE, View.{view, outcome}}
 use Rattle.arrays.specs.Copies.{take_min}
 use Rattle.lines.specs.LineEnd.{line_end, line_end_le, line_part}

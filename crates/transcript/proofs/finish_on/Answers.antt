@@ -1,5 +1,5 @@
 -- `finish_on` answers a line that was begun as if a newline came.
-use Rattle.lists.specs.Basics.{◌∙◌, rules}
+use Rattle.std.proofs.Common.{◌∙◌, rules}
 use Rattle.transcript.specs.Ends.{one_begun, ends_empty, ends_begun}
 use Rattle.transcript.proofs.finish_on.Goals as goal
 

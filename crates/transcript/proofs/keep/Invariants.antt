@@ -1,4 +1,6 @@
-use Rattle.lists.specs.Basics.{◌≡◌, refl, ap, ◌∙◌, ◌+◌, ◌-◌, ◌≤◌, arith, rules, take, paste, paste-zero}
+use Rattle.std.specs.Prelude.{◌≡◌, refl, ◌+◌, ◌-◌, ◌≤◌, take}
+use Rattle.std.proofs.Common.{ap, ◌∙◌, arith, rules}
+use Rattle.std.proofs.Math.Seq.{paste, paste-zero}
 use Rattle.arrays.specs.Copies.{Copied, copy_one, kept_piece}
 use Rattle.transcript.proofs.keep.Given as goal
 

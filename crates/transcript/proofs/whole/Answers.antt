@@ -1,5 +1,6 @@
 -- `whole` writes the transcript of an input, as far as there is room.
-use Rattle.lists.specs.Basics.{subst, ◌-◌, ◌≤◌, arith, rules, length, take, drop, length-take}
+use Rattle.std.specs.Prelude.{◌-◌, ◌≤◌, length, take, drop}
+use Rattle.std.proofs.Common.{subst, arith, rules, length-take}
 use Rattle.transcript.specs.{Ends.{fed_fits, ended_fits, whole_short, whole_long}, Reading.beginning, View.{Feeding, zeros_read}}
 use Rattle.transcript.proofs.whole.Goals as goal
 

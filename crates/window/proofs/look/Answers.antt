@@ -1,5 +1,5 @@
 -- `look`: at or below the mark, beyond the window, or by the bit.
-use Rattle.lists.specs.Basics.{sym, ◌∙◌, arith}
+use Rattle.std.proofs.Common.{sym, ◌∙◌, arith}
 use Rattle.protocol.proofs.Recovery.Laws.Look.{look_low, look_bit, look_far}
 use Rattle.window.specs.Bits.{window_bits}
 use Rattle.window.proofs.look.Goals as goal

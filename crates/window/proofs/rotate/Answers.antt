@@ -1,5 +1,5 @@
 -- `rotate` shifts: the two shifts share no bit, so they make the sum of the paper's wording.
-use Rattle.lists.specs.Basics.{rules}
+use Rattle.std.proofs.Common.{rules}
 use Rattle.window.specs.Rotation.{rotate_by_shifts}
 use Rattle.window.proofs.rotate.Goals as goal
 

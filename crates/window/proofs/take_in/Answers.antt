@@ -1,5 +1,6 @@
 -- `take_in`: an open SN gets its bit, and mark and window move by the run of ones.
-use Rattle.lists.specs.Basics.{◌≡◌, refl, sym, ◌∙◌, ap, true, false, arith}
+use Rattle.std.specs.Prelude.{◌≡◌, refl, true, false}
+use Rattle.std.proofs.Common.{sym, ◌∙◌, ap, arith}
 use Rattle.protocol.specs.{declared.Seen.Seen, declared.Seen.TheVariants.{Worked, Open, Beyond}, Window.{look, is_open}}
 use Rattle.protocol.proofs.{Recovery.Laws.Look.{open_above, open_near}}
 use Rattle.window.specs.{Bits.window_bits, Slides.{run_top, kept, taken}}

@@ -1,5 +1,5 @@
 -- `work` adds the value to the rotated state, modulo 2^32.
-use Rattle.lists.specs.Basics.{rules}
+use Rattle.std.proofs.Common.{rules}
 use Rattle.protocol.specs.Work.{work}
 use Rattle.window.proofs.work.Goals as goal
 

@@ -1,5 +1,6 @@
 -- `can_be_taken_back`: the log, the wire, the table.
-use Rattle.lists.specs.Basics.{sym, ◌∙◌, not-true, not-false, rules}
+use Rattle.std.proofs.Common.{sym, ◌∙◌, rules}
+use Rattle.std.proofs.lemmas.Bool.{not-true, not-false}
 use Rattle.store.specs.ViewLaws.{span}
 use Rattle.withdraw.specs.Judged.{question_12}
 use Rattle.withdraw.proofs.can_be_taken_back.Goals as goal

@@ -1,5 +1,6 @@
 -- `forget`: the SN before, then the log without the message.
-use Rattle.lists.specs.Basics.{length, set, ◌+◌, ◌≤◌, ◌∙◌, arith, length-set, rules}
+use Rattle.std.specs.Prelude.{length, set, ◌+◌, ◌≤◌}
+use Rattle.std.proofs.Common.{◌∙◌, arith, length-set, rules}
 use Rattle.words.specs.Part.{put_length}
 use Rattle.memory.specs.Places.{SN, LOG, ROW}
 use Rattle.withdraw.specs.Withdrawn.{forgotten_put}

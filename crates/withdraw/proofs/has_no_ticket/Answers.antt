@@ -1,5 +1,5 @@
 -- `has_no_ticket`: an entry, or none.
-use Rattle.lists.specs.Basics.{ap, sym, ◌∙◌, rules}
+use Rattle.std.proofs.Common.{ap, sym, ◌∙◌, rules}
 use Rattle.protocol.specs.{Tickets.entry, Questions.no-entry}
 use Rattle.tickets.specs.Table.{found_entry}
 use Rattle.memory.specs.View.{table_part}

@@ -1,5 +1,5 @@
 -- `judge`: 2 to 5, then 12.
-use Rattle.lists.specs.Basics.{sym, ◌∙◌, rules}
+use Rattle.std.proofs.Common.{sym, ◌∙◌, rules}
 use Rattle.withdraw.specs.Judged.{stopped, index, yes_12, no_12}
 use Rattle.withdraw.proofs.judge.Goals as goal
 

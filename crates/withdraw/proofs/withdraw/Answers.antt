@@ -1,5 +1,6 @@
 -- `withdraw`: refused by the first "no", or taken back.
-use Rattle.lists.specs.Basics.{refl, ◌∙◌, rules}
+use Rattle.std.specs.Prelude.{refl}
+use Rattle.std.proofs.Common.{◌∙◌, rules}
 use Rattle.protocol.specs.{Withdraw.{last_sn, withdraw}, Questions.withdraw_questions}
 use Rattle.store.specs.{View.tried, Framing.{refused, accepted}}
 use Rattle.withdraw.specs.Judged.{passed_in}

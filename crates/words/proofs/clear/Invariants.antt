@@ -1,4 +1,5 @@
-use Rattle.lists.specs.Basics.{◌≡◌, refl, ◌-◌, ◌≤◌, arith, rules, length, length-set, take}
+use Rattle.std.specs.Prelude.{◌≡◌, refl, ◌-◌, ◌≤◌, length, take}
+use Rattle.std.proofs.Common.{arith, rules, length-set}
 use Rattle.words.specs.Zeros.{zeros, clear_one, clear_end}
 use Rattle.words.proofs.clear.Given as goal
 

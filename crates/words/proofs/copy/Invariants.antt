@@ -1,4 +1,5 @@
-use Rattle.lists.specs.Basics.{refl, ◌≡◌, ◌∙◌, ap, ◌-◌, ◌≤◌, arith, rules, length, length-set}
+use Rattle.std.specs.Prelude.{refl, ◌≡◌, ◌-◌, ◌≤◌, length}
+use Rattle.std.proofs.Common.{◌∙◌, ap, arith, rules, length-set}
 use Rattle.words.specs.Copy.{copied, copy_none, copy_one, copy_all}
 use Rattle.words.proofs.copy.Given as goal
 

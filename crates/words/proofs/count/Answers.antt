@@ -1,4 +1,4 @@
-use Rattle.lists.specs.Basics.{arith, rules}
+use Rattle.std.proofs.Common.{arith, rules}
 use Rattle.words.specs.Rows.{row_length}
 use Rattle.words.proofs.count.Goals as goal
 

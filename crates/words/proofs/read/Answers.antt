@@ -1,4 +1,4 @@
-use Rattle.lists.specs.Basics.{arith, rules}
+use Rattle.std.proofs.Common.{arith, rules}
 use Rattle.words.specs.Rows.{row_at, row_beyond}
 use Rattle.words.proofs.read.Goals as goal
 

@@ -1,4 +1,5 @@
-use Rattle.lists.specs.Basics.{◌≡◌, refl, sym, ◌∙◌, ◌+◌, ◌<◌, ◌-◌, arith, rules, length, length-set}
+use Rattle.std.specs.Prelude.{◌≡◌, refl, ◌+◌, ◌<◌, ◌-◌, length}
+use Rattle.std.proofs.Common.{sym, ◌∙◌, arith, rules, length-set}
 use Rattle.words.specs.{Rows.{row, without, without_last, without_none, row_set_length, row_move}, Becomes.{Beside, becomes_same, becomes_as, beside_same, beside_set, beside_cut}}
 use Rattle.words.proofs.remove.Goals as goal
 

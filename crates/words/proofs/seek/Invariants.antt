@@ -1,4 +1,5 @@
-use Rattle.lists.specs.Basics.{drop, eq-eqb, ne_eqb, arith, ◌+◌, ◌-◌, ◌≤◌, ◌≡◌, rules}
+use Rattle.std.specs.Prelude.{drop, ◌+◌, ◌-◌, ◌≤◌, ◌≡◌}
+use Rattle.std.proofs.Common.{eq-eqb, ne_eqb, arith, rules}
 use Rattle.words.specs.Rows.{row, named, seek_hit, seek_miss, seek_end}
 use Rattle.arrays.specs.Place.{place, place_start}
 use Rattle.words.proofs.seek.Given as goal

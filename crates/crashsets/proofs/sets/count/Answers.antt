@@ -1,5 +1,6 @@
 -- `count`: the words in turn. The invariant: those passed are counted.
-use Rattle.lists.specs.Basics.{◌≡◌, sym, ◌∙◌, ◌-◌, ◌^◌, ◌≤◌, arith, rules}
+use Rattle.std.specs.Prelude.{◌≡◌, ◌-◌, ◌^◌, ◌≤◌}
+use Rattle.std.proofs.Common.{sym, ◌∙◌, arith, rules}
 use Rattle.protocol.specs.Job.{machines_of, job_of}
 use Rattle.frames.specs.Decode.{decoded}
 use Rattle.crashsets.specs.{Machines.{few, words_end}, Tallies.{Passed, none_passed, other_size, one_survived, one_lost, all_passed}}

@@ -1,5 +1,6 @@
 -- `stands`: bit p - 1 of the word.
-use Rattle.lists.specs.Basics.{◌-◌, ◌/◌, ◌^◌, rules}
+use Rattle.std.specs.Prelude.{◌-◌, ◌/◌, ◌^◌}
+use Rattle.std.proofs.Common.{rules}
 use Rattle.window.specs.Bits.{bits}
 use lib.Bits.{and_mask}
 use Rattle.crashsets.proofs.sets.stands.Goals as goal

@@ -1,4 +1,5 @@
-use Rattle.lists.specs.Basics.{◌≡◌, sym, ◌∙◌, ◌≤◌, arith, rules, not}
+use Rattle.std.specs.Prelude.{◌≡◌, ◌≤◌, not}
+use Rattle.std.proofs.Common.{sym, ◌∙◌, arith, rules}
 use Rattle.lists.specs.Lists.{allb}
 use Rattle.protocol.specs.Job.{machines_of, job_of}
 use Rattle.frames.specs.Decode.{decoded}

@@ -1,5 +1,6 @@
 -- `together`: the machine's bit, and its buddy's.
-use Rattle.lists.specs.Basics.{sym, ◌∙◌, arith, rules, not-true, not-false}
+use Rattle.std.proofs.Common.{sym, ◌∙◌, arith, rules}
+use Rattle.std.proofs.lemmas.Bool.{not-true, not-false}
 use Rattle.crashsets.specs.Machines.{few, buddy_low, buddy_high}
 use Rattle.crashsets.proofs.sets.together.Goals as goal
 

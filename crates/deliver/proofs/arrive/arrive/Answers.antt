@@ -1,5 +1,6 @@
 -- `arrive` goes by the content.
-use Rattle.lists.specs.Basics.{refl, rules}
+use Rattle.std.specs.Prelude.{refl}
+use Rattle.std.proofs.Common.{rules}
 use Rattle.deliver.specs.{Effect.{effect, effect_questions}, Fits.hops_fit, View.{effect_of, reply_of, did}}
 use Rattle.deliver.proofs.arrive.arrive.Goals as goal
 

@@ -1,5 +1,8 @@
 -- `ask`: an entry found, the SN worked, a refusal, or a new ticket.
-use Rattle.lists.specs.Basics.{none, ◌≡◌, refl, sym, ap, ◌∙◌, false, ◌-◌, ◌<◌, arith, mod-eq_of_lt, lt-leb, le-leb, lt-ltb, le-ltb, rules, length}
+use Rattle.std.specs.Prelude.{◌≡◌, refl, false, ◌-◌, ◌<◌, length}
+use Rattle.std.proofs.Common.{sym, ap, ◌∙◌, arith, mod-eq_of_lt, le-leb, lt-ltb, le-ltb, rules}
+use Rattle.std.proofs.Math.Option.{none}
+use Rattle.std.proofs.lemmas.Bool.{lt-leb}
 use Rattle.lists.specs.Questions.{ok, put_all}
 use Rattle.arrays.specs.Front.{push}
 use Rattle.protocol.specs.{Parts.{Memory, number_limit, table_room}, Packets.is_worked, Window.worked}

@@ -1,5 +1,7 @@
 -- `data_in`: no entry, a received one, or one that is filled.
-use Rattle.lists.specs.Basics.{◌∙◌, ap, sym, ◌%◌, arith, rules, not-true, not-false}
+use Rattle.std.specs.Prelude.{◌%◌}
+use Rattle.std.proofs.Common.{◌∙◌, ap, sym, arith, rules}
+use Rattle.std.proofs.lemmas.Bool.{not-true, not-false}
 use Rattle.protocol.specs.{Tickets.{entry, filled}, declared.Rule.TheVariants.DataFilled}
 use Rattle.tickets.specs.Table.{found_entry}
 use Rattle.memory.specs.View.{table_part, table_changed}

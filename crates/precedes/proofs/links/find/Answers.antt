@@ -1,7 +1,9 @@
 -- `links::find` meets its contract: a name outside the table has no place, and another's is read at its slot.
 -- Assumes nothing.
 use borrow.Author.Rules.{rules}
-use Rattle.lists.specs.Basics.{inl, inr, ◌≤◌, arith, eqb-true, eqb-false, ltb-true, ltb-false}
+use Rattle.std.specs.Prelude.{◌≤◌}
+use Rattle.std.proofs.Common.{inl, inr, arith, eqb-true, ltb-true, ltb-false}
+use Rattle.std.proofs.lemmas.Bool.{eqb-false}
 use Rattle.precedes.specs.Links.{found_in, found_out}
 use Rattle.precedes.proofs.links.find.Goals as goal
 

@@ -1,6 +1,8 @@
 -- `links::good` meets its contract. Assumes nothing.
 use borrow.Author.Rules.{rules}
-use Rattle.lists.specs.Basics.{◌≡◌, sym, true, arith, not-true, not-false}
+use Rattle.std.specs.Prelude.{◌≡◌, true}
+use Rattle.std.proofs.Common.{sym, arith}
+use Rattle.std.proofs.lemmas.Bool.{not-true, not-false}
 use Rattle.precedes.specs.{Precedes.in_range, Links.{admits, ranged, not_ranged}}
 use Rattle.precedes.proofs.links.good.Goals as goal
 

@@ -1,6 +1,7 @@
 -- `links::is_next` meets its contract. Assumes nothing.
 use borrow.Author.Rules.{rules}
-use Rattle.lists.specs.Basics.{◌≡◌, sym, true, arith, leb, eq-eqb, ne_eqb, le-leb}
+use Rattle.std.specs.Prelude.{◌≡◌, true, leb}
+use Rattle.std.proofs.Common.{sym, arith, eq-eqb, ne_eqb, le-leb}
 use Rattle.precedes.specs.Links.{next_by}
 use Rattle.precedes.proofs.links.is_next.Goals as goal
 

@@ -1,6 +1,6 @@
 -- `links::is_sent` meets its contract. Assumes nothing.
 use borrow.Author.Rules.{rules}
-use Rattle.lists.specs.Basics.{eq-eqb, ne_eqb}
+use Rattle.std.proofs.Common.{eq-eqb, ne_eqb}
 use Rattle.precedes.specs.Links.{sent_by}
 use Rattle.precedes.proofs.links.is_sent.Goals as goal
 

@@ -1,6 +1,9 @@
 -- `links::link` meets its contract: by the laws of `Steps`, one for each way a turn goes. Assumes nothing.
 use borrow.Author.Rules.{rules}
-use Rattle.lists.specs.Basics.{◌≡◌, sym, ◌∙◌, true, ◌-◌, arith, length, get_or, length-map, not-true, not-false}
+use Rattle.std.specs.Prelude.{◌≡◌, true, ◌-◌, length, get_or}
+use Rattle.std.proofs.Common.{sym, ◌∙◌, arith}
+use Rattle.std.proofs.lemmas.Bool.{not-true, not-false}
+use Rattle.std.proofs.lemmas.List.{length-map}
 use Rattle.precedes.specs.{Rows.nobody, Links.admits}
 use Rattle.precedes.specs.Steps.{SoFar, at_kept, before_kept, sent_kept, none_read, all_read, past_bad, one_bad, record_tabled, one_more}
 use denote.Struct.Laws as LL

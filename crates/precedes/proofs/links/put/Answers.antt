@@ -1,6 +1,7 @@
 -- `links::put` meets its contract. Assumes nothing.
 use borrow.Author.Rules.{rules}
-use Rattle.lists.specs.Basics.{ap, arith, set, add-one}
+use Rattle.std.specs.Prelude.{set}
+use Rattle.std.proofs.Common.{ap, arith, add-one}
 use Rattle.precedes.specs.{Precedes.{name, origin}, Links.{in_slots}}
 use Rattle.precedes.proofs.links.put.Goals as goal
 

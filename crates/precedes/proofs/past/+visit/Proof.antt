@@ -2,7 +2,8 @@
 -- Assumes nothing.
 use borrow.Author.Rules.{rules}
 use Prim.Native.Nat.{ℕ, ◌<◌}
-use Rattle.lists.specs.Basics.{◌∙◌, ◌-◌, arith, length-set}
+use Rattle.std.specs.Prelude.{◌-◌}
+use Rattle.std.proofs.Common.{◌∙◌, arith, length-set}
 use Rattle.precedes.specs.Visits.{visited_none, visited_before, whole_first, whole_second, visited_both}
 use borrow.Fn.Kinds.{In}
 use borrow.Fn.PlainCycle.{Measures, is, falls, and}

@@ -1,5 +1,5 @@
 -- `all_back` goes through the chares. The loop: those below n are back.
-use Rattle.lists.specs.Basics.{◌∙◌, arith, rules}
+use Rattle.std.proofs.Common.{◌∙◌, arith, rules}
 use Rattle.store.specs.{View.view}
 use Rattle.restart.specs.{OnMachine.{home_at, on_last}, Homes.{backs_start, backs_more, backs_skip, backs_all}}
 use Rattle.restart.proofs.back.all_back.Goals as goal

@@ -1,4 +1,4 @@
-use Rattle.lists.specs.Basics.{◌≡◌, ◌-◌, ◌≤◌, length}
+use Rattle.std.specs.Prelude.{◌≡◌, ◌-◌, ◌≤◌, length}
 use Rattle.store.specs.{Places.STORE, View.view}
 use Rattle.restart.specs.{Homes.{backs}}
 use Rattle.restart.proofs.back.all_back.Given as goal

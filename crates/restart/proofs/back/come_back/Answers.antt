@@ -1,5 +1,5 @@
 -- `come_back` copies the memory, renews it and sets the target.
-use Rattle.lists.specs.Basics.{arith, inr, length-set, length-append, length-take, length-drop, rules}
+use Rattle.std.proofs.Common.{arith, inr, length-set, length-append, length-take, length-drop, rules}
 use Rattle.restart.specs.Restored.{back_is}
 use Rattle.tickets.specs.Table.{entries}
 use Rattle.restart.proofs.back.come_back.Goals as goal

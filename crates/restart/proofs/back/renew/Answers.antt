@@ -1,5 +1,5 @@
 -- `renew` puts the table, then the top.
-use Rattle.lists.specs.Basics.{◌∙◌, rules}
+use Rattle.std.proofs.Common.{◌∙◌, rules}
 use Rattle.protocol.specs.Restart.{target_of}
 use Rattle.restart.specs.Restored.{renewed, renew_memory}
 use Rattle.restart.proofs.back.renew.Goals as goal

@@ -1,5 +1,5 @@
 -- `tables` goes through the chares. The loop: the tables below n are built.
-use Rattle.lists.specs.Basics.{arith, rules}
+use Rattle.std.proofs.Common.{arith, rules}
 use Rattle.store.specs.View.{view}
 use Rattle.restart.specs.{OnMachine.home_at, Homes.{going_start, going_end, going_skip, going_stop, going_more}}
 use Rattle.restart.proofs.back.tables.Goals as goal

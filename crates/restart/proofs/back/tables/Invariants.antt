@@ -1,4 +1,4 @@
-use Rattle.lists.specs.Basics.{◌≡◌, ◌-◌, ◌≤◌, length}
+use Rattle.std.specs.Prelude.{◌≡◌, ◌-◌, ◌≤◌, length}
 use Rattle.store.specs.View.{view}
 use Rattle.restart.specs.{Homes.{ROWS, Going}}
 use Rattle.restart.proofs.back.tables.Given as goal

@@ -1,5 +1,6 @@
 -- `copy_over` copies word by word: i words are there.
-use Rattle.lists.specs.Basics.{refl, sym, ◌∙◌, arith, add-one, length-set, take-suc, take-suc-set, take_all, rules}
+use Rattle.std.specs.Prelude.{refl}
+use Rattle.std.proofs.Common.{sym, ◌∙◌, arith, add-one, length-set, take-suc, take-suc-set, take_all, rules}
 use Rattle.restart.proofs.over.copy_over.Goals as goal
 
 pub loop-i-init : goal.loop-i-init

@@ -1,4 +1,4 @@
-use Rattle.lists.specs.Basics.{◌≡◌, ◌-◌, ◌≤◌, length, take}
+use Rattle.std.specs.Prelude.{◌≡◌, ◌-◌, ◌≤◌, length, take}
 use Rattle.restart.proofs.over.copy_over.Given as goal
 
 abbrev pub invariant-loop-i : goal.invariant-loop-i

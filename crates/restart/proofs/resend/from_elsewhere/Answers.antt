@@ -1,5 +1,5 @@
 -- `from_elsewhere` meets its contract, case by case.
-use Rattle.lists.specs.Basics.{eq-eqb, ne_eqb, lt-ltb, le-ltb, rules}
+use Rattle.std.proofs.Common.{eq-eqb, ne_eqb, lt-ltb, le-ltb, rules}
 use Rattle.restart.specs.Resends.{packets_of, elsewhere}
 use Rattle.restart.proofs.resend.from_elsewhere.Goals as goal
 

@@ -1,5 +1,5 @@
 -- `from_here` meets its contract, case by case.
-use Rattle.lists.specs.Basics.{eq-eqb, ne_eqb, rules}
+use Rattle.std.proofs.Common.{eq-eqb, ne_eqb, rules}
 use Rattle.protocol.specs.Restart.{from_here}
 use Rattle.restart.specs.Resends.{packets_of}
 use Rattle.restart.proofs.resend.from_here.Goals as goal

@@ -1,5 +1,5 @@
 -- `height_back` reads the copy.
-use Rattle.lists.specs.Basics.{sym, ◌∙◌}
+use Rattle.std.proofs.Common.{sym, ◌∙◌}
 use Rattle.restart.specs.Stored.{copy_height}
 use Rattle.restart.proofs.resend.height_back.Goals as goal
 

@@ -1,5 +1,6 @@
 -- `put` joins the wire where there is room.
-use Rattle.lists.specs.Basics.{◌≡◌, refl, ◌∙◌, ◌-◌, ◌<◌, ◌≤◌, length, arith}
+use Rattle.std.specs.Prelude.{◌≡◌, refl, ◌-◌, ◌<◌, ◌≤◌, length}
+use Rattle.std.proofs.Common.{◌∙◌, arith}
 use Rattle.protocol.specs.Sending.{about}
 use Rattle.item.specs.Item.{items}
 use Rattle.packets.specs.{Words.{fitted, packets}, Packing.packed}

@@ -1,5 +1,5 @@
 -- `resend` goes by where receiver and sender are.
-use Rattle.lists.specs.Basics.{arith}
+use Rattle.std.proofs.Common.{arith}
 use Rattle.restart.specs.{OnMachine.{home_at, on_last}, Resends.{packets_of, again}}
 use Rattle.restart.proofs.resend.resend.Goals as goal
 

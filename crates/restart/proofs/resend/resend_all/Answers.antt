@@ -1,5 +1,6 @@
 -- `resend_all` goes through the logs. The loop: those from q on are still to be sent.
-use Rattle.lists.specs.Basics.{refl, arith, rules}
+use Rattle.std.specs.Prelude.{refl}
+use Rattle.std.proofs.Common.{arith, rules}
 use Rattle.protocol.specs.Parts.{every_chare, every_sender}
 use Rattle.item.specs.Item.{items}
 use Rattle.packets.specs.Words.{packets}

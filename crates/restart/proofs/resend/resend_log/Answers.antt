@@ -1,5 +1,6 @@
 -- `resend_log` goes through a log. The loop: the messages from i on are still to be sent.
-use Rattle.lists.specs.Basics.{refl, ap, ◌∙◌, arith, drop_of_length-le, rules}
+use Rattle.std.specs.Prelude.{refl}
+use Rattle.std.proofs.Common.{ap, ◌∙◌, arith, drop_of_length-le, rules}
 use Rattle.logs.specs.{Log.{logged_of, entries as messages}, Fits.at_fits}
 use Rattle.item.specs.Item.{items}
 use Rattle.packets.specs.Words.{packets}

@@ -1,4 +1,4 @@
-use Rattle.lists.specs.Basics.{◌≡◌, ◌-◌, ◌≤◌, length, drop}
+use Rattle.std.specs.Prelude.{◌≡◌, ◌-◌, ◌≤◌, length, drop}
 use Rattle.lists.specs.Lists.{gather}
 use Rattle.logs.specs.{Log.{entries as messages}}
 use Rattle.item.specs.Item.{items}

@@ -1,5 +1,5 @@
 -- `resend_sorted` sends a sorted copy of the log.
-use Rattle.lists.specs.Basics.{◌∙◌}
+use Rattle.std.proofs.Common.{◌∙◌}
 use Rattle.restart.proofs.resend.resend_sorted.Goals as goal
 
 pub returns : goal.returns

@@ -1,5 +1,5 @@
 -- `build` is three walks, each from the table that the one before left, and the messages that fill.
-use Rattle.lists.specs.Basics.{length-set, rules}
+use Rattle.std.proofs.Common.{length-set, rules}
 use Rattle.restart.specs.{Built.{build_stop, build_stop_2, build_stop_3, build_all}, Words.{packed_none, packed_words}}
 use Rattle.restart.proofs.table.build.Goals as goal
 

@@ -1,5 +1,6 @@
 -- `fill_all` goes through the copied logs. The loop: those from q on still fill.
-use Rattle.lists.specs.Basics.{refl, sym, ◌∙◌, arith, rules}
+use Rattle.std.specs.Prelude.{refl}
+use Rattle.std.proofs.Common.{sym, ◌∙◌, arith, rules}
 use Rattle.lists.specs.Lists.{keep, gather}
 use Rattle.protocol.specs.{Parts.every_chare, Restart.{fill_all, local_log}}
 use Rattle.restart.specs.{Fills.{filling, filling_append}, Ranges.{count_from, range, range_next, range_past}, Stored.copy_log, OnMachine.home_at}

@@ -1,4 +1,4 @@
-use Rattle.lists.specs.Basics.{◌≡◌, ◌-◌, ◌≤◌, length}
+use Rattle.std.specs.Prelude.{◌≡◌, ◌-◌, ◌≤◌, length}
 use Rattle.restart.specs.Words.{AllPacked}
 use Rattle.lists.specs.Lists.{gather}
 use Rattle.protocol.specs.{Parts.every_chare, Restart.{local_log}}

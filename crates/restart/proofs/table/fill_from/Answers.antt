@@ -1,5 +1,6 @@
 -- `fill_from` fills from a log. The loop: the messages from i on still fill.
-use Rattle.lists.specs.Basics.{refl, sym, ◌∙◌, ◌<◌, arith, mod-eq_of_lt, drop_of_length-le, rules}
+use Rattle.std.specs.Prelude.{refl, ◌<◌}
+use Rattle.std.proofs.Common.{sym, ◌∙◌, arith, mod-eq_of_lt, drop_of_length-le, rules}
 use Rattle.restart.specs.{Gather.next, Fills.filling}
 use Rattle.restart.specs.Words.{packed_change}
 use Rattle.lists.specs.Lists.{keep}

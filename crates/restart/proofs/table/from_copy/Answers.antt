@@ -1,5 +1,6 @@
 -- `from_copy` enters the tickets of a copy. The loop: the entries from i on are still to be entered.
-use Rattle.lists.specs.Basics.{refl, arith, drop_of_length-le, rules}
+use Rattle.std.specs.Prelude.{refl}
+use Rattle.std.proofs.Common.{arith, drop_of_length-le, rules}
 use Rattle.restart.specs.{Gather.next, Limited.{more_end, more_on, more_stop}, Tables.{entering_one}, Sources.copied}
 use Rattle.restart.specs.Words.{packed_enter}
 use Rattle.protocol.specs.Restart.{enter, ticket_of_entry}

@@ -1,5 +1,6 @@
 -- `from_log` enters the tickets of a log. The loop: the messages from i on are still to be entered.
-use Rattle.lists.specs.Basics.{refl, sym, ◌∙◌, arith, drop_of_length-le, rules}
+use Rattle.std.specs.Prelude.{refl}
+use Rattle.std.proofs.Common.{sym, ◌∙◌, arith, drop_of_length-le, rules}
 use Rattle.restart.specs.{Gather.{chosen, next}, Limited.{more_end, more_skip, more_on, more_stop}, Tables.{entering_one}, Sources.logged}
 use Rattle.restart.specs.Words.{packed_enter}
 use Rattle.protocol.specs.Restart.{enter, ticket_of_logged}

@@ -1,4 +1,4 @@
-use Rattle.lists.specs.Basics.{◌≡◌, ◌-◌, ◌≤◌, length, drop}
+use Rattle.std.specs.Prelude.{◌≡◌, ◌-◌, ◌≤◌, length, drop}
 use Rattle.restart.specs.{Tables.{entering}, Sources.logged}
 use Rattle.restart.specs.Words.{AllPacked}
 use Rattle.lists.specs.Lists.{gather}

@@ -1,5 +1,6 @@
 -- `from_logs` goes through the logs. The loop: those from q on are still to be entered.
-use Rattle.lists.specs.Basics.{refl, arith, rules}
+use Rattle.std.specs.Prelude.{refl}
+use Rattle.std.proofs.Common.{arith, rules}
 use Rattle.lists.specs.Lists.{gather}
 use Rattle.protocol.specs.{Parts.{every_chare, every_sender}, Restart.{enter, other_log}}
 use Rattle.tickets.specs.Table.{entries}

@@ -1,5 +1,6 @@
 -- `from_notes` enters the notes. The loop: those from i on are still to be entered.
-use Rattle.lists.specs.Basics.{refl, arith, eq-eqb, ne_eqb, lt-ltb, le-ltb, drop_of_length-le, rules}
+use Rattle.std.specs.Prelude.{refl}
+use Rattle.std.proofs.Common.{arith, eq-eqb, ne_eqb, lt-ltb, le-ltb, drop_of_length-le, rules}
 use Rattle.restart.specs.{Gather.{chosen, next}, Limited.{more_end, more_skip, more_on, more_stop}, Tables.{entering_one}, Sources.noted}
 use Rattle.restart.specs.Words.{packed_enter}
 use Rattle.protocol.specs.Restart.{enter, ticket_of_note, is_note_above}

@@ -1,5 +1,5 @@
 -- `is_above` asks for the receiver, then for the TN.
-use Rattle.lists.specs.Basics.{eq-eqb, ne_eqb, rules}
+use Rattle.std.proofs.Common.{eq-eqb, ne_eqb, rules}
 use Rattle.protocol.specs.Restart.{is_ticketed_above}
 use Rattle.restart.proofs.table.is_above.Goals as goal
 

@@ -1,4 +1,6 @@
-use Rattle.lists.specs.Basics.{refl, sym, ◌∙◌, not-true, not-false, ◌%◌, rules}
+use Rattle.std.specs.Prelude.{refl, ◌%◌}
+use Rattle.std.proofs.Common.{sym, ◌∙◌, rules}
+use Rattle.std.proofs.lemmas.Bool.{not-true, not-false}
 use Rattle.sends.specs.Worked.{not_ready, too_high, mark_too_high, worked}
 use Rattle.sends.proofs.entry.work_entry.Goals as goal
 

@@ -1,4 +1,4 @@
-use Rattle.lists.specs.Basics.{refl}
+use Rattle.std.specs.Prelude.{refl}
 use Rattle.protocol.specs.Sending.{about}
 use Rattle.sends.proofs.message.about.Goals as goal
 

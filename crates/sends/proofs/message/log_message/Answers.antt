@@ -1,4 +1,5 @@
-use Rattle.lists.specs.Basics.{length, set, ◌+◌, ◌≤◌, ◌∙◌, arith, length-set, rules}
+use Rattle.std.specs.Prelude.{length, set, ◌+◌, ◌≤◌}
+use Rattle.std.proofs.Common.{◌∙◌, arith, length-set, rules}
 use Rattle.words.specs.Part.{put_length}
 use Rattle.memory.specs.Places.{SN, LOG, ROW}
 use Rattle.sends.specs.InMemory.{logged_put}

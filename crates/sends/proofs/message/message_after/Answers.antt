@@ -1,4 +1,4 @@
-use Rattle.lists.specs.Basics.{arith, lt-ltb, le-ltb}
+use Rattle.std.proofs.Common.{arith, lt-ltb, le-ltb}
 use Rattle.sends.specs.Ticket.{sn_next}
 use Rattle.sends.proofs.message.message_after.Goals as goal
 

@@ -1,5 +1,6 @@
 -- `put`: a packet more at the end of the wire, or the wire as it was.
-use Rattle.lists.specs.Basics.{length, arith, ◌-◌, ◌<◌, ◌≡◌, refl, ◌∙◌, rules}
+use Rattle.std.specs.Prelude.{length, ◌-◌, ◌<◌, ◌≡◌, refl}
+use Rattle.std.proofs.Common.{arith, ◌∙◌, rules}
 use Rattle.sends.specs.{Ticket.{wire_by, to_words}, InMemory.about_fits}
 use Rattle.words.specs.Becomes.{becomes_same, becomes_as}
 use Rattle.packets.specs.Words.{fit_content, packets}

@@ -1,4 +1,4 @@
-use Rattle.lists.specs.Basics.{not-true, not-false}
+use Rattle.std.proofs.lemmas.Bool.{not-true, not-false}
 use Rattle.sends.specs.{Plan.base_after, Ticket.{is_new, tn_of}}
 use Rattle.sends.proofs.plan.base_after.Goals as goal
 

@@ -1,4 +1,4 @@
-use Rattle.lists.specs.Basics.{not-true, not-false}
+use Rattle.std.proofs.lemmas.Bool.{not-true, not-false}
 use Rattle.sends.specs.{Plan.extra_after, Ticket.is_new}
 use Rattle.sends.proofs.plan.extra_after.Goals as goal
 

@@ -1,4 +1,4 @@
-use Rattle.lists.specs.Basics.{refl}
+use Rattle.std.specs.Prelude.{refl}
 use Rattle.sends.specs.Plan.{idle}
 use Rattle.sends.proofs.plan.idle.Goals as goal
 

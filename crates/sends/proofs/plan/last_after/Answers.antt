@@ -1,4 +1,5 @@
-use Rattle.lists.specs.Basics.{not-true, not-false, lt-ltb, le-ltb}
+use Rattle.std.proofs.Common.{lt-ltb, le-ltb}
+use Rattle.std.proofs.lemmas.Bool.{not-true, not-false}
 use Rattle.sends.specs.{Plan.last_after, Ticket.sn_next}
 use Rattle.sends.proofs.plan.last_after.Goals as goal
 

@@ -1,4 +1,5 @@
-use Rattle.lists.specs.Basics.{le-leb, lt-leb, arith}
+use Rattle.std.proofs.Common.{le-leb, arith}
+use Rattle.std.proofs.lemmas.Bool.{lt-leb}
 use Rattle.sends.specs.{Plan.new_plan, Reading.table_top}
 use Rattle.memory.specs.{Places.{TABLE, ROW}, View.table_part}
 use Rattle.words.specs.Part.{part}

@@ -1,4 +1,4 @@
-use Rattle.lists.specs.Basics.{◌∙◌, rules}
+use Rattle.std.proofs.Common.{◌∙◌, rules}
 use Rattle.store.specs.ViewLaws.{span}
 use Rattle.sends.specs.{Reading.planned, Plan.plan_after}
 use Rattle.sends.proofs.plan.plan_after.Goals as goal

@@ -1,4 +1,4 @@
-use Rattle.lists.specs.Basics.{rules}
+use Rattle.std.proofs.Common.{rules}
 use Rattle.store.specs.ViewLaws.{span}
 use Rattle.sends.specs.{Reading.planned, Plan.plan_of}
 use Rattle.sends.proofs.plan.plan_of.Goals as goal

@@ -1,4 +1,5 @@
-use Rattle.lists.specs.Basics.{not-true, not-false, lt-ltb, le-ltb, arith, rules}
+use Rattle.std.proofs.Common.{lt-ltb, le-ltb, arith, rules}
+use Rattle.std.proofs.lemmas.Bool.{not-true, not-false}
 use Rattle.sends.specs.{Plan.{plan_for, local_plan}, Room.extra_top}
 use Rattle.memory.specs.View.{table_part}
 use Rattle.tickets.specs.Table.{found_entry}

@@ -1,4 +1,4 @@
-use Rattle.lists.specs.Basics.{sym, ap}
+use Rattle.std.proofs.Common.{sym, ap}
 use Rattle.sends.specs.Ticket.{fits}
 use Rattle.sends.proofs.ticket.fits.Goals as goal
 

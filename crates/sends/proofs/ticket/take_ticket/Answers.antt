@@ -1,4 +1,4 @@
-use Rattle.lists.specs.Basics.{arith, rules}
+use Rattle.std.proofs.Common.{arith, rules}
 use Rattle.sends.specs.{InMemory.{ticket_found, ticket_new}, Ticket.table_by}
 use Rattle.protocol.specs.Sending.{local_entry}
 use Rattle.sends.proofs.ticket.take_ticket.Goals as goal

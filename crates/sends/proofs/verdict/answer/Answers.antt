@@ -1,4 +1,5 @@
-use Rattle.lists.specs.Basics.{not-true, not-false, le-leb, lt-leb}
+use Rattle.std.proofs.Common.{le-leb}
+use Rattle.std.proofs.lemmas.Bool.{not-true, not-false, lt-leb}
 use Rattle.lists.specs.Questions.{first_no}
 use Rattle.sends.proofs.verdict.answer.Goals as goal
 

@@ -1,4 +1,4 @@
-use Rattle.lists.specs.Basics.{arith}
+use Rattle.std.proofs.Common.{arith}
 use Rattle.sends.specs.{Sends.one_verdict, Room.growth_top}
 use Rattle.sends.proofs.verdict.one_verdict.Goals as goal
 

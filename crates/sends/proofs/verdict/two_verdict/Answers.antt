@@ -1,4 +1,4 @@
-use Rattle.lists.specs.Basics.{arith}
+use Rattle.std.proofs.Common.{arith}
 use Rattle.sends.specs.{Sends.two_verdict, Room.growth_top}
 use Rattle.sends.proofs.verdict.two_verdict.Goals as goal
 

@@ -1,5 +1,6 @@
 -- `bit`: that of the low word below 64, else that of the high one.
-use Rattle.lists.specs.Basics.{◌≡◌, ◌∙◌, ap, ◌+◌, ◌-◌, ◌/◌, ◌^◌, arith, rules}
+use Rattle.std.specs.Prelude.{◌≡◌, ◌+◌, ◌-◌, ◌/◌, ◌^◌}
+use Rattle.std.proofs.Common.{◌∙◌, ap, arith, rules}
 use Rattle.window.specs.{Bits.{bits, window_bits}, Words.{bit_low, bits_high}}
 use lib.Bits.{and_mask}
 use Rattle.window.proofs.bits.bit.Goals as goal

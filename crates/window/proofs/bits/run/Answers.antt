@@ -1,5 +1,5 @@
 -- `run`: the low word's run, and the high one's behind it where the low word is all ones.
-use Rattle.lists.specs.Basics.{rules}
+use Rattle.std.proofs.Common.{rules}
 use Rattle.window.specs.{Bits.window_bits, Words.{run_stops, run_goes_on}}
 use Rattle.window.proofs.bits.run.Goals as goal
 

@@ -1,5 +1,6 @@
 -- `set`: the bit goes into the low word below 64, else into the high one.
-use Rattle.lists.specs.Basics.{◌≡◌, ◌∙◌, ap, true, ◌+◌, ◌-◌, arith, rules}
+use Rattle.std.specs.Prelude.{◌≡◌, true, ◌+◌, ◌-◌}
+use Rattle.std.proofs.Common.{◌∙◌, ap, arith, rules}
 use Rattle.lists.specs.Map.{upd}
 use Rattle.window.specs.{Bits.window_bits, Words.{set_low, set_high}}
 use Rattle.window.proofs.bits.set.Goals as goal

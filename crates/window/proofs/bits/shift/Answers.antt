@@ -1,5 +1,7 @@
 -- `shift`: nothing, less than a word, a word and more, both words.
-use Rattle.lists.specs.Basics.{◌≡◌, fun_ext, ap, ◌+◌, arith, rules}
+use Rattle.std.specs.Prelude.{◌≡◌, ◌+◌}
+use Rattle.std.proofs.Common.{ap, arith, rules}
+use Rattle.std.proofs.Math.Path.{fun_ext}
 use Rattle.window.specs.{Bits.window_bits, Words.{shift_less, shift_word, shift_all}}
 use Rattle.window.proofs.bits.shift.Goals as goal
 
