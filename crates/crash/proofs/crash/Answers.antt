@@ -1,7 +1,6 @@
 -- `crash::crash` meets its contract: refused, lost without cover, or down.
 use Rattle.std.specs.Prelude.{refl}
 use Rattle.std.proofs.Common.{arith, rules}
-use Rattle.std.proofs.lemmas.Bool.{not-true, not-false}
 use Rattle.protocol.specs.Questions.{crash_questions, is_machine}
 use Rattle.store.specs.{Framing.{refused, machine_in}, View.view}
 use Rattle.crash.specs.Whole.{covered, uncovered}
@@ -12,7 +11,7 @@ returns-then-no-ne0 c = refused c.args.s.now _ _ c.judge-no.ensures _ c.if-no-ne
 
 pub returns-then-not-has_cover : goal.returns-then-not-has_cover
 returns-then-not-has_cover c =
-    uncovered c.args.s.now c.args.p _ c.judge-no.ensures (search rules) _ c.has_cover.ensures (not-true _ c.if-not-has_cover.true-raw) c.requires
+    uncovered c.args.s.now c.args.p _ c.judge-no.ensures (search rules) _ c.has_cover.ensures (c.if-not-has_cover.true) c.requires
 
 pub go_down-requires : goal.go_down-requires
 unfolding crash_questions is_machine view
@@ -22,4 +21,4 @@ go_down-requires c =
 
 pub returns : goal.returns
 returns c =
-    covered c.args.s.now c.args.p _ c.judge-no.ensures (search rules) _ c.has_cover.ensures (not-false _ c.if-not-has_cover.false-raw) c.go_down.new.s c.go_down.ensures
+    covered c.args.s.now c.args.p _ c.judge-no.ensures (search rules) _ c.has_cover.ensures (c.if-not-has_cover.false) c.go_down.new.s c.go_down.ensures

@@ -1,6 +1,6 @@
 -- `crash::go_down` meets its contract: one part after the other.
 use Rattle.std.specs.Prelude.{◌≡◌, ◌+◌, length, set}
-use Rattle.std.proofs.Common.{arith, rules, length-set}
+use Rattle.std.proofs.Common.{arith, length-set}
 use Rattle.head.specs.Head.{STATUS}
 use Rattle.store.specs.{View.view, Places.STORE}
 use Rattle.crash.specs.Whole.{crash_is}

@@ -1,9 +1,7 @@
 use Rattle.std.specs.Prelude.{◌≡◌, ◌+◌, ◌-◌, ◌≤◌}
-use Rattle.std.proofs.Common.{sym, ◌∙◌, arith, rules}
-use Rattle.std.proofs.lemmas.Bool.{not-true, not-false}
-use Rattle.arrays.specs.Loops.{each, each_hit, each_miss, each_end}
+use Rattle.arrays.specs.Loops.{each}
 use Rattle.lists.specs.Lists.{allb}
-use Rattle.protocol.specs.{Crash.{is_normal, has_cover}, Parts.job_machines}
+use Rattle.protocol.specs.{Crash.{is_normal}, Parts.job_machines}
 use Rattle.head.specs.Head.{job_of}
 use Rattle.store.specs.View.{view}
 use Rattle.crash.proofs.has_cover.Given as goal

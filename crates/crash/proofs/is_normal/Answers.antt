@@ -1,5 +1,4 @@
 -- `crash::is_normal` meets its contract: status by status.
-use Rattle.std.proofs.Common.{rules}
 use Rattle.protocol.specs.{Crash.is_normal, Parts.{is_down, is_catching_up}}
 use Rattle.store.specs.View.{view}
 use Rattle.crash.proofs.is_normal.Goals as goal

@@ -1,5 +1,5 @@
 -- `crash::judge` meets its contract: each question by the function that answers it.
-use Rattle.std.proofs.Common.{◌∙◌, rules}
+use Rattle.std.proofs.Common.{◌∙◌}
 use Rattle.protocol.specs.{Parts.up, Questions.{crash_questions, is_machine}}
 use Rattle.head.specs.Head.{runs}
 use Rattle.store.specs.View.{view}

@@ -1,9 +1,9 @@
 -- `crash::lose_copies` meets its contract: the chares below n are done.
-use Rattle.std.specs.Prelude.{◌≡◌, ◌+◌, ◌-◌, ◌*◌, ◌≤◌, length}
-use Rattle.std.proofs.Common.{ap, arith, rules}
+use Rattle.std.specs.Prelude.{◌≡◌, ◌+◌, ◌-◌, ◌*◌}
+use Rattle.std.proofs.Common.{ap, arith}
 use Rattle.memory.specs.Places.{MEMORY}
-use Rattle.store.specs.{Places.{STORE, COPY}, View.view, Visits.visit_none}
-use Rattle.crash.specs.Memories.{copy_to, with_copy_map, copy_miss, copy_hit, copy_end}
+use Rattle.store.specs.{Places.{COPY}, View.view, Visits.visit_none}
+use Rattle.crash.specs.Memories.{with_copy_map, copy_miss, copy_hit, copy_end}
 use Rattle.crash.proofs.lose_copies.Goals as goal
 
 pub loop-n-init : goal.loop-n-init

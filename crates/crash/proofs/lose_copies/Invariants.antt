@@ -1,8 +1,6 @@
-use Rattle.std.specs.Prelude.{◌≡◌, ◌+◌, ◌-◌, ◌*◌, ◌≤◌, length}
-use Rattle.std.proofs.Common.{ap, arith, rules}
-use Rattle.memory.specs.Places.{MEMORY}
-use Rattle.store.specs.{Places.{STORE, COPY}, View.view, Visits.visit_none}
-use Rattle.crash.specs.Memories.{copy_to, with_copy_map, copy_miss, copy_hit, copy_end}
+use Rattle.std.specs.Prelude.{◌≡◌, ◌-◌, ◌≤◌, length}
+use Rattle.store.specs.{Places.{STORE}, View.view}
+use Rattle.crash.specs.Memories.{copy_to}
 use Rattle.crash.proofs.lose_copies.Given as goal
 
 abbrev pub invariant-loop-n : goal.invariant-loop-n

@@ -1,10 +1,10 @@
 -- `crash::lose_live` meets its contract: the chares below n are done.
-use Rattle.std.specs.Prelude.{◌≡◌, ◌+◌, ◌-◌, ◌*◌, ◌≤◌, length}
-use Rattle.std.proofs.Common.{sym, ap, ◌∙◌, arith, rules}
+use Rattle.std.specs.Prelude.{◌≡◌, ◌+◌, ◌-◌, ◌*◌}
+use Rattle.std.proofs.Common.{sym, ap, ◌∙◌, arith}
 use Rattle.memory.specs.Places.{MEMORY}
 use Rattle.protocol.specs.Setters.{with_live}
-use Rattle.store.specs.{Places.{STORE, LIVE}, View.view, Visits.visit_none}
-use Rattle.crash.specs.Memories.{live_to, live_miss, live_hit, live_end}
+use Rattle.store.specs.{Places.{LIVE}, View.view, Visits.visit_none}
+use Rattle.crash.specs.Memories.{live_miss, live_hit, live_end}
 use Rattle.crash.proofs.lose_live.Goals as goal
 
 pub loop-n-init : goal.loop-n-init

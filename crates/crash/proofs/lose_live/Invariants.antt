@@ -1,9 +1,6 @@
-use Rattle.std.specs.Prelude.{◌≡◌, ◌+◌, ◌-◌, ◌*◌, ◌≤◌, length}
-use Rattle.std.proofs.Common.{sym, ap, ◌∙◌, arith, rules}
-use Rattle.memory.specs.Places.{MEMORY}
-use Rattle.protocol.specs.Setters.{with_live}
-use Rattle.store.specs.{Places.{STORE, LIVE}, View.view, Visits.visit_none}
-use Rattle.crash.specs.Memories.{live_to, live_miss, live_hit, live_end}
+use Rattle.std.specs.Prelude.{◌≡◌, ◌-◌, ◌≤◌, length}
+use Rattle.store.specs.{Places.{STORE}, View.view}
+use Rattle.crash.specs.Memories.{live_to}
 use Rattle.crash.proofs.lose_live.Given as goal
 
 abbrev pub invariant-loop-n : goal.invariant-loop-n

@@ -1,14 +1,13 @@
 -- `crash::lose_notes` meets its contract: the machines below n are done.
-use Rattle.std.specs.Prelude.{◌≡◌, ◌+◌, ◌-◌, ◌*◌, ◌≤◌, length}
-use Rattle.std.proofs.Common.{arith, rules, length-set}
-use Rattle.store.specs.{Visits.{visit_none, held_length}, Places.{STORE, NOTES, NOTELIST}, View.view}
-use Rattle.crash.specs.Keeping.{kept_to, both, kept_miss, kept_hit, kept_end}
+use Rattle.std.specs.Prelude.{◌≡◌, ◌+◌, ◌-◌, ◌*◌}
+use Rattle.std.proofs.Common.{arith}
+use Rattle.store.specs.{Visits.{visit_none, held_length}, Places.{NOTES, NOTELIST}, View.view}
+use Rattle.crash.specs.Keeping.{both, kept_miss, kept_hit, kept_end}
 use Rattle.crash.proofs.lose_notes.Goals as goal
 
 pub loop-n-init : goal.loop-n-init
 loop-n-init c = (omega arith, c.requires, both (view c.args.s.now) (visit_none _ _ _) (visit_none _ _ _))
 
--- LEFT slice-bounds-empty-end
 -- part-empty-end c = simp length-set (omega arith)
 
 pub loop-n-preserved-then-buddy-p : goal.loop-n-preserved-then-buddy-p

@@ -1,7 +1,6 @@
-use Rattle.std.specs.Prelude.{◌≡◌, ◌+◌, ◌-◌, ◌*◌, ◌≤◌, length}
-use Rattle.std.proofs.Common.{arith, rules, length-set}
-use Rattle.store.specs.{Visits.{visit_none, held_length}, Places.{STORE, NOTES, NOTELIST}, View.view}
-use Rattle.crash.specs.Keeping.{kept_to, both, kept_miss, kept_hit, kept_end}
+use Rattle.std.specs.Prelude.{◌≡◌, ◌-◌, ◌≤◌, length}
+use Rattle.store.specs.{Places.{STORE}, View.view}
+use Rattle.crash.specs.Keeping.{kept_to}
 use Rattle.crash.proofs.lose_notes.Given as goal
 
 abbrev pub invariant-loop-n : goal.invariant-loop-n

@@ -1,5 +1,5 @@
 -- `crash::lose_packets` meets its contract: the head is copied, then the wire is lent.
-use Rattle.std.proofs.Common.{arith, rules}
+use Rattle.std.proofs.Common.{arith}
 use Rattle.crash.specs.Whole.{wire_is}
 use Rattle.crash.proofs.lose_packets.Goals as goal
 

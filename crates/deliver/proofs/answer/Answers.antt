@@ -1,6 +1,6 @@
 -- `answer`: off the wire, and the reply, if any, at its end.
 use Rattle.std.specs.Prelude.{◌≡◌, List, map, ℕ, ◌-◌, length}
-use Rattle.std.proofs.Common.{ap, ◌∙◌, arith, rules}
+use Rattle.std.proofs.Common.{ap, ◌∙◌, arith}
 use Rattle.words.specs.{Rows.{row, without}, Becomes.{becomes_same, becomes_as}, Mapped.map_without}
 use Rattle.item.specs.Item.{item_of, items}
 use Rattle.packets.specs.Words.{packets}

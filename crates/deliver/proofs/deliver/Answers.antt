@@ -1,6 +1,6 @@
 -- `deliver`: the first questions, the packet, and where it goes; each law of `Whole` is one way out.
 use Rattle.std.specs.Prelude.{◌≡◌, cond, eqb}
-use Rattle.std.proofs.Common.{◌∙◌, rules, eq-eqb, ne_eqb}
+use Rattle.std.proofs.Common.{◌∙◌, eq-eqb, ne_eqb}
 use Rattle.deliver.specs.Whole.{frame_refused, frame_missing, waiting, place_fits, to_chare, to_notes}
 use Rattle.deliver.proofs.deliver.Goals as goal
 use Rattle.deliver.proofs.deliver.Goals.{then-kind-eq2, else-kind-eq2}

@@ -1,6 +1,6 @@
 -- `deliver_note`: the list for the receiver's machine, then the wire.
 use Rattle.std.specs.Prelude.{◌≡◌, ℕ, ◌+◌, ◌-◌}
-use Rattle.std.proofs.Common.{arith, rules}
+use Rattle.std.proofs.Common.{arith}
 use Rattle.store.specs.Places.{NOTELIST, notes_from}
 use Rattle.deliver.specs.InPlace.{note_refused, note_done}
 use Rattle.deliver.proofs.deliver_note.Goals as goal

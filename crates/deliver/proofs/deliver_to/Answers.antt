@@ -1,5 +1,5 @@
 -- `deliver_to`: the memory of the chare, then the wire.
-use Rattle.std.proofs.Common.{arith, rules}
+use Rattle.std.proofs.Common.{arith}
 use Rattle.store.specs.ViewLaws.{span}
 use Rattle.deliver.specs.InPlace.{chare_refused, chare_done}
 use Rattle.deliver.proofs.deliver_to.Goals as goal

@@ -1,5 +1,5 @@
 -- `judge` puts questions 2 to 5.
-use Rattle.std.proofs.Common.{◌∙◌, rules}
+use Rattle.std.proofs.Common.{◌∙◌}
 use Rattle.deliver.specs.Frame.{first_questions}
 use Rattle.deliver.proofs.judge.Goals as goal
 

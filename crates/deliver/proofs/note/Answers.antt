@@ -1,6 +1,6 @@
 -- `note`: present, no room, or stored.
 use Rattle.std.specs.Prelude.{◌≡◌, refl, List, ℕ, ◌-◌, ◌<◌, length}
-use Rattle.std.proofs.Common.{sym, ◌∙◌, arith, rules, lt-ltb, le-ltb}
+use Rattle.std.proofs.Common.{sym, ◌∙◌, arith, lt-ltb, le-ltb}
 use Rattle.lists.specs.Questions.{put_all}
 use Rattle.arrays.specs.Front.{push_fits, push_full}
 use Rattle.protocol.specs.{Parts.note_room, Packets.note_of}

@@ -1,5 +1,5 @@
 -- `settle::drop_target` meets its contract: on machine p, or not.
-use Rattle.std.proofs.Common.{sym, ◌∙◌, rules}
+use Rattle.std.proofs.Common.{sym, ◌∙◌}
 use Rattle.store.specs.{View.view, ViewLaws.target_set}
 use Rattle.settle.specs.Targets.{dropped}
 use Rattle.settle.proofs.drop_target.Goals as goal

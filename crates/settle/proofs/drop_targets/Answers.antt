@@ -1,8 +1,6 @@
 -- `settle::drop_targets` meets its contract: the targets of the chares before c are dropped.
-use Rattle.std.specs.Prelude.{◌≡◌, ◌-◌, ◌≤◌, length}
 use Rattle.std.proofs.Common.{◌∙◌, ap, arith, rules}
-use Rattle.store.specs.{Places.STORE, View.view}
-use Rattle.settle.specs.Targets.{dropped, dropped_to, dropped_start, dropped_more, dropped_end}
+use Rattle.settle.specs.Targets.{dropped, dropped_start, dropped_more, dropped_end}
 use Rattle.settle.proofs.drop_targets.Goals as goal
 
 pub loop-c-init : goal.loop-c-init

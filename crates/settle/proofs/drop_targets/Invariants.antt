@@ -1,7 +1,6 @@
 use Rattle.std.specs.Prelude.{◌≡◌, ◌-◌, ◌≤◌, length}
-use Rattle.std.proofs.Common.{◌∙◌, ap, arith, rules}
 use Rattle.store.specs.{Places.STORE, View.view}
-use Rattle.settle.specs.Targets.{dropped, dropped_to, dropped_start, dropped_more, dropped_end}
+use Rattle.settle.specs.Targets.{dropped_to}
 use Rattle.settle.proofs.drop_targets.Given as goal
 
 abbrev pub invariant-loop-c : goal.invariant-loop-c

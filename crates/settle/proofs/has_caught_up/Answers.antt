@@ -1,6 +1,6 @@
 -- `settle::has_caught_up` meets its contract: below its target, or there.
 use Rattle.std.specs.Prelude.{◌≡◌, ◌+◌, ◌-◌}
-use Rattle.std.proofs.Common.{◌∙◌, arith, rules}
+use Rattle.std.proofs.Common.{◌∙◌, arith}
 use Rattle.memory.specs.Places.{LOG, ROW, MEMORY}
 use Rattle.store.specs.Places.{live_from}
 use Rattle.settle.specs.Done.{behind, there}

@@ -1,5 +1,4 @@
 -- `settle::is_catching_up` meets its contract: status by status.
-use Rattle.std.proofs.Common.{rules}
 use Rattle.protocol.specs.Parts.{is_catching_up}
 use Rattle.store.specs.View.{view}
 use Rattle.settle.proofs.is_catching_up.Goals as goal

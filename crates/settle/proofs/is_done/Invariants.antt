@@ -1,10 +1,6 @@
 use Rattle.std.specs.Prelude.{◌≡◌, ◌-◌, ◌≤◌}
-use Rattle.std.proofs.Common.{sym, ◌∙◌, arith, rules}
-use Rattle.std.proofs.lemmas.Bool.{not-true, not-false}
-use Rattle.lists.specs.Lists.{allb}
-use Rattle.protocol.specs.{Parts.every_chare, Restart.is_done}
-use Rattle.lists.specs.Counting.{counting}
-use Rattle.arrays.specs.Loops.{each, each_hit, each_miss, each_end, allb_keep}
+use Rattle.protocol.specs.{Restart.is_done}
+use Rattle.arrays.specs.Loops.{each}
 use Rattle.store.specs.View.{view}
 use Rattle.settle.specs.Done.{passes}
 use Rattle.settle.proofs.is_done.Given as goal

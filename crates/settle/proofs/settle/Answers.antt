@@ -1,9 +1,8 @@
 -- `settle::settle` meets its contract: the machines from p on are still to settle.
-use Rattle.std.specs.Prelude.{◌≡◌, ◌+◌, ◌-◌, ◌≤◌, length}
+use Rattle.std.specs.Prelude.{◌≡◌, ◌+◌, ◌-◌}
 use Rattle.std.proofs.Common.{arith, rules}
-use Rattle.lists.specs.Counting.{counting}
-use Rattle.protocol.specs.{Parts.job_machines, Restart.{settle, settle_all}}
-use Rattle.store.specs.{Places.STORE, View.view}
+use Rattle.protocol.specs.{Parts.job_machines, Restart.{settle}}
+use Rattle.store.specs.{View.view}
 use Rattle.settle.specs.Settled.{settle_more, settle_end}
 use Rattle.settle.proofs.settle.Goals as goal
 
@@ -12,7 +11,7 @@ unfolding settle job_machines view
 loop-p-init c =
     let m = c.machines-last in
     let e : m.result + 1 - 1 ≡ m.result = omega arith in
-    (search rules, search rules, search rules, rw (e, m.ensures.0))
+    (search rules, search rules, search rules, rw (e, m.ensures.is))
 
 pub loop-p-preserved : goal.loop-p-preserved
 loop-p-preserved c =

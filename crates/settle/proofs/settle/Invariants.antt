@@ -1,9 +1,7 @@
 use Rattle.std.specs.Prelude.{◌≡◌, ◌+◌, ◌-◌, ◌≤◌, length}
-use Rattle.std.proofs.Common.{arith, rules}
 use Rattle.lists.specs.Counting.{counting}
-use Rattle.protocol.specs.{Parts.job_machines, Restart.{settle, settle_all}}
+use Rattle.protocol.specs.{Restart.{settle, settle_all}}
 use Rattle.store.specs.{Places.STORE, View.view}
-use Rattle.settle.specs.Settled.{settle_more, settle_end}
 use Rattle.settle.proofs.settle.Given as goal
 
 abbrev pub invariant-loop-p : goal.invariant-loop-p

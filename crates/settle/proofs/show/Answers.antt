@@ -9,12 +9,10 @@ use Rattle.settle.proofs.show.Goals as goal
 pub returns-then-no-ne0 : goal.returns-then-no-ne0
 returns-then-no-ne0 c = show_refused _ _ _ c.judge_chare-no.ensures c.if-no-ne0.true
 
--- LEFT slice-bounds-m-end
--- part-m-end c =
---     let st = c.before.before.before in
---     let p = st.requires in
---     let h = chare_in _ _ _ c.before.judge-chare.ensures c.if1.false in
---     search needs
+pub slice_bounds-m-end : goal.slice_bounds-m-end
+slice_bounds-m-end c =
+    let h = chare_in _ _ _ c.judge_chare-no.ensures c.if-no-ne0.false in
+    search rules
 
 pub returns : goal.returns
 returns c =

@@ -6,9 +6,6 @@ use Rattle.memory.specs.Places.{SN, LOG, ROW}
 use Rattle.withdraw.specs.Withdrawn.{forgotten_put}
 use Rattle.withdraw.proofs.forget.Goals as goal
 
--- LEFT slice-bounds-remove-end
--- part-remove-end c = simp length-set (omega arith)
-
 pub shape_of-m : goal.shape_of-m
 shape_of-m c =
     let a = c.args in

@@ -1,5 +1,5 @@
 -- `is_asked`: a packet, or none.
-use Rattle.std.proofs.Common.{ap, sym, ◌∙◌, rules}
+use Rattle.std.proofs.Common.{ap, sym, ◌∙◌}
 use Rattle.protocol.specs.Questions.{is_there}
 use Rattle.packets.specs.View.{found, sought_packet}
 use Rattle.withdraw.proofs.is_asked.Goals as goal

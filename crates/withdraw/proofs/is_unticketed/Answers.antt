@@ -1,5 +1,4 @@
 -- `is_unticketed`: what the log has under the name.
-use Rattle.std.proofs.Common.{rules}
 use Rattle.protocol.specs.Withdraw.{without_tn}
 use Rattle.memory.specs.View.{log_part}
 use Rattle.withdraw.proofs.is_unticketed.Goals as goal

@@ -1,5 +1,5 @@
 -- `take_back`: the desk's memory, then the wire.
-use Rattle.std.proofs.Common.{arith, rules}
+use Rattle.std.proofs.Common.{arith}
 use Rattle.withdraw.specs.Withdrawn.{taken_back}
 use Rattle.withdraw.proofs.take_back.Goals as goal
 

@@ -1,5 +1,5 @@
 -- `ack` notes the entry in the table.
-use Rattle.std.proofs.Common.{ap, arith, rules}
+use Rattle.std.proofs.Common.{ap, arith}
 use Rattle.lists.specs.Lists.{change1}
 use Rattle.protocol.specs.{Tickets.{for_message, mark_noted}, declared.Rule.TheVariants.Other}
 use Rattle.memory.specs.View.{table_changed}

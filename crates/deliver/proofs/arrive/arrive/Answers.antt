@@ -1,6 +1,5 @@
 -- `arrive` goes by the content.
 use Rattle.std.specs.Prelude.{refl}
-use Rattle.std.proofs.Common.{rules}
 use Rattle.deliver.specs.{Effect.{effect, effect_questions}, Fits.hops_fit, View.{effect_of, reply_of, did}}
 use Rattle.deliver.proofs.arrive.arrive.Goals as goal
 

@@ -1,11 +1,10 @@
 -- `ask`: an entry found, the SN worked, a refusal, or a new ticket.
-use Rattle.std.specs.Prelude.{◌≡◌, refl, false, ◌-◌, ◌<◌, length}
-use Rattle.std.proofs.Common.{sym, ap, ◌∙◌, arith, mod-eq_of_lt, le-leb, lt-ltb, le-ltb, rules}
-use Rattle.std.proofs.Math.Option.{none}
+use Rattle.std.specs.Prelude.{◌≡◌, refl, ◌-◌, ◌<◌, length}
+use Rattle.std.proofs.Common.{sym, ap, ◌∙◌, arith, mod-eq_of_lt, le-leb, lt-ltb, le-ltb}
 use Rattle.std.proofs.lemmas.Bool.{lt-leb}
 use Rattle.lists.specs.Questions.{ok, put_all}
 use Rattle.arrays.specs.Front.{push}
-use Rattle.protocol.specs.{Parts.{Memory, number_limit, table_room}, Packets.is_worked, Window.worked}
+use Rattle.protocol.specs.{Parts.{number_limit, table_room}, Packets.is_worked, Window.worked}
 use Rattle.protocol.specs.{Tickets.{entry, next_tn, new_tn, unreceived}, declared.Content.TheVariants.GrantNew as GRANT-new, declared.Rule.TheVariants.AskNew}
 use Rattle.words.specs.Part.{part, part_length}
 use Rattle.tickets.specs.Table.{found_entry}

@@ -1,6 +1,6 @@
 -- `data_in`: no entry, a received one, or one that is filled.
 use Rattle.std.specs.Prelude.{◌%◌}
-use Rattle.std.proofs.Common.{◌∙◌, ap, sym, arith, rules}
+use Rattle.std.proofs.Common.{◌∙◌, ap, sym, arith}
 use Rattle.std.proofs.lemmas.Bool.{not-true, not-false}
 use Rattle.protocol.specs.{Tickets.{entry, filled}, declared.Rule.TheVariants.DataFilled}
 use Rattle.tickets.specs.Table.{found_entry}

@@ -1,5 +1,5 @@
 -- `grant_new`: the message without a TN gets it, and goes out.
-use Rattle.std.proofs.Common.{◌∙◌, ap, arith, rules}
+use Rattle.std.proofs.Common.{◌∙◌, ap, arith}
 use Rattle.protocol.specs.{Packets.ticketed, declared.Content.TheVariants.Data as DATA, declared.Rule.TheVariants.GrantNew}
 use Rattle.memory.specs.View.{log_part, log_changed}
 use Rattle.deliver.specs.{Effect.{answering, unticketed, grant_new_effect}, View.{effect_of, reply_of}}

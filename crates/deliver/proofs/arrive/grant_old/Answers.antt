@@ -1,5 +1,5 @@
 -- `grant_old`: the message without a TN goes.
-use Rattle.std.proofs.Common.{◌∙◌, ap, arith, rules}
+use Rattle.std.proofs.Common.{◌∙◌, ap, arith}
 use Rattle.lists.specs.Lists.{remove1}
 use Rattle.protocol.specs.{Packets.for_receiver, declared.Rule.TheVariants.GrantOld}
 use Rattle.memory.specs.View.{log_part, log_changed}

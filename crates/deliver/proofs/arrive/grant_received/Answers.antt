@@ -1,5 +1,5 @@
 -- `grant_received`: the message without a TN gets it.
-use Rattle.std.proofs.Common.{◌∙◌, ap, arith, rules}
+use Rattle.std.proofs.Common.{◌∙◌, ap, arith}
 use Rattle.protocol.specs.{Packets.ticketed, declared.Rule.TheVariants.GrantReceived}
 use Rattle.memory.specs.View.{log_part, log_changed}
 use Rattle.deliver.specs.{Effect.{quiet, unticketed, grant_received_effect}, View.{effect_of, reply_of}}
