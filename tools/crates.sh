@@ -56,15 +56,16 @@ copy_crates() { # FOLDER CRATE...
   done
 }
 
-# Copies to such a folder the libraries of these crates that are built, and what was proved of the last, so that neither is made anew.
+# Copies to such a folder the libraries that are built of all that these crates need, and what was proved of these: neither is made anew.
 copy_built() { # FOLDER CRATE...
-  local to=$1 crate part; shift
-  for crate; do
-    for part in rlib incremental; do
-      if [ -d "$root/crates/$crate/out/$part" ] && { [ $part = rlib ] || [ "$crate" = "${*: -1}" ]; }; then
-        mkdir -p "$to/crates/$crate/out"
-        cp -rp "$root/crates/$crate/out/$part" "$to/crates/$crate/out"
-      fi
-    done
-  done
+  local to=$1 crate; shift
+  for crate in $(needed "$@"); do copy_out "$to" "$crate" rlib; done
+  for crate; do copy_out "$to" "$crate" incremental; done
+}
+
+copy_out() { # FOLDER CRATE PART
+  if [ -d "$root/crates/$2/out/$3" ]; then
+    mkdir -p "$1/crates/$2/out"
+    cp -rp "$root/crates/$2/out/$3" "$1/crates/$2/out"
+  fi
 }

@@ -9,7 +9,7 @@ root=$(cd "$(dirname "$0")/.." && pwd)
 dir=$(cd "$1" && pwd); shift
 scratch=$(mktemp -d); trap 'rm -rf "$scratch"' EXIT
 copy_crates "$scratch" lists protocol
-copy_built "$scratch" lists protocol
+copy_built "$scratch" protocol
 mkdir -p "$scratch/crates/given/proofs" "$scratch/crates/given/src"
 echo 'given: lists protocol' >>"$scratch/crates.txt"
 printf '// Nothing but theorems in proofs/.\n#![tactic(auto)]\n' >"$scratch/crates/given/src/lib.rt"

@@ -9,6 +9,6 @@ root=$(cd "$(dirname "$0")/.." && pwd)
 "$root/tools/prove.sh" "$@"
 work=$(mktemp -d); trap 'rm -rf "$work"' EXIT
 copy_crates "$work" $(needed "$@")
-copy_built "$work" $(needed "$@")
+copy_built "$work" "$@"
 for name; do mkdir "$work/crates/$name/must-fail"; cp "$root/must-fail/$name"/*.edit "$work/crates/$name/must-fail"; done
 cd "$work" && rt must-fail "$@"

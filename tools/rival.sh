@@ -26,7 +26,7 @@ work=$(mktemp -d); trap 'rm -rf "$work"' EXIT
 # Of a crate that is not proved, whatever is changed, the prover refuses all.
 "$root/tools/prove.sh" "$crate" 2>"$work/log" >/dev/null || { cat "$work/log" >&2; fail "the edit was not tried: the crate itself is not proved"; }
 copy_crates "$work/copy" $(needed "$crate")
-copy_built "$work/copy" $(needed "$crate")
+copy_built "$work/copy" "$crate"
 mkdir "$work/copy/crates/$crate/must-fail"
 cp "$1" "$work/copy/crates/$crate/must-fail/rival.edit"
 (cd "$work/copy" && rt must-fail "$crate") >"$work/log" 2>&1 || true

@@ -9,7 +9,7 @@ programs="sitting survivors sittings"
 "$root/tools/prove.sh" $programs >&2
 work=$(mktemp -d); trap 'rm -rf "$work"' EXIT
 copy_crates "$work" $(needed $programs)
-for name in $programs; do copy_built "$work" $(needed "$name"); done
+copy_built "$work" $programs
 cp -r "$root/tools" "$work"
 mkdir "$work/target"
 cp -rp "$root/target/stamp" "$root/target/bin" "$work/target"
@@ -26,29 +26,35 @@ reads_pieces() { SATUPHIR_PROGRAMS=$work/target/bin cargo test --offline --quiet
 for name in $programs; do reads_its_own "$name" || { echo "the right program $name is refused"; exit 2; }; done
 reads_pieces || { echo "the right programs are refused"; exit 2; }
 refused=0 others=0
-wrong() { # CRATE OLD NEW WHAT
-  local source=$work/crates/$1/src/main.rt by= proved=no
+wrong() { # CRATE WHAT OLD NEW [OLD NEW]...
+  local crate=$1 what=$2 source=$work/crates/$1/src/main.rt by= proved=no
   cp -p "$source" "$work/kept"
-  [ "$(grep -cF -- "$2" "$source")" = 1 ] || { echo "$1: this does not stand once in its source: $2"; exit 2; }
-  OLD=$2 NEW=$3 awk '{ old = ENVIRON["OLD"]; at = index($0, old); if (at) $0 = substr($0, 1, at - 1) ENVIRON["NEW"] substr($0, at + length(old)); print }' "$work/kept" >"$source"
-  if "$work/tools/prove.sh" "$1" >"$work/log" 2>&1 && grep -q "^rt: $1 proved ([0-9]" "$work/log"; then
+  shift 2
+  while [ $# -gt 0 ]; do
+    [ "$(grep -cF -- "$1" "$source")" = 1 ] || { echo "$crate: this does not stand once in its source: $1"; exit 2; }
+    OLD=$1 NEW=$2 awk '{ old = ENVIRON["OLD"]; at = index($0, old); if (at) $0 = substr($0, 1, at - 1) ENVIRON["NEW"] substr($0, at + length(old)); print }' "$source" >"$work/edited"
+    cp "$work/edited" "$source"
+    shift 2
+  done
+  if "$work/tools/prove.sh" "$crate" >"$work/log" 2>&1 && grep -q "^rt: $crate proved ([0-9]" "$work/log"; then
     proved=yes
-    if ! reads_its_own "$1"; then by="its run on the crate's own input"
+    if ! reads_its_own "$crate"; then by="its run on the crate's own input"
     elif ! reads_pieces; then by="its run on pieces"; fi
   fi
   if [ $proved = yes ] && [ -n "$by" ]; then
-    echo "$1, $4: proved, refused by $by"; refused=$((refused + 1))
+    echo "$crate, $what: proved, refused by $by"; refused=$((refused + 1))
   else
-    echo "$1, $4: NOT refused by a run$([ $proved = yes ] || echo ', for it is not proved')"; others=$((others + 1))
+    echo "$crate, $what: NOT refused by a run$([ $proved = yes ] || echo ', for it is not proved')"; others=$((others + 1))
   fi
   cp -p "$work/kept" "$source"
-  cp -p "$work/right/$1" "$work/target/bin/$1"
+  cp -p "$work/right/$crate" "$work/target/bin/$crate"
 }
-wrong sitting 'let mut turns = u64::MAX;' 'let mut turns = 2u64;' "reads twice and stops"
-wrong sitting 'libc::read(STDIN_FILENO, input)' 'libc::read(STDOUT_FILENO, input)' "reads another file"
-wrong sitting 'if !io::write_all(STDOUT_FILENO' 'if !io::write_all(STDIN_FILENO' "writes the answers to another file"
-wrong sitting 'io::write_all(STDOUT_FILENO, &out[..written]);' 'io::write_all(STDIN_FILENO, &out[..written]);' "writes the last answer to another file"
-wrong survivors 'return k;' 'return n;' "drops the piece that ends the line"
-wrong sittings 'io::write_all(STDOUT_FILENO, b"\n");' 'io::write_all(STDOUT_FILENO, b" ");' "writes a blank after a name"
+imports='use std::io::{Read, Stdin, Stdout};' with_write='use std::io::{Read, Stdin, Stdout, Write};'
+wrong sitting "reads twice and stops" 'let mut turns = u64::MAX;' 'let mut turns = 2u64;'
+wrong sitting "reads another file" 'number(stdin.read(input))' 'number(io::empty().read(input))'
+wrong sitting "writes the answers to another file" "$imports" "$with_write" 'if stdout.write_all(' 'if io::sink().write_all('
+wrong sitting "writes the last answer to another file" "$imports" "$with_write" 'let _ = stdout.write_all(' 'let _ = io::sink().write_all('
+wrong survivors "drops the piece that ends the line" 'return k;' 'return n;'
+wrong sittings "writes a blank after a name" 'rt.write_all(b"\n")?;' 'rt.write_all(b" ")?;'
 echo "$refused wrong programs refused by a run, $others not"
 [ $others -eq 0 ]
