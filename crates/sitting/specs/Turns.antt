@@ -1,11 +1,10 @@
 -- What the program does with what a read gave. No contract can say what is read and what is written: these say what reaches the reader.
-use Rattle.std.specs.Prelude.{◌⊎◌, ℤ, pos, negsuc, ◌≡◌, refl, Bool, true, false, List, [], ◌++◌, ℕ, zero, suc, length, take}
+use Rattle.std.specs.Prelude.{◌⊎◌, ℤ, pos, negsuc, ◌≡◌, refl, Bool, true, false, List, [], ◌++◌, ℕ, zero, suc, min, length, take}
 use Rattle.std.proofs.Math.Logic.{inl, inr}
 use Rattle.std.specs.Int.Signed.{lt_z}
 use Rattle.std.specs.Int.{w64}
 use Rattle.std.proofs.Common.{SFits, of_z, to_z, ap, ◌∙◌, arith}
 use Rattle.std.proofs.Math.Facts.{to_z-of_z}
-use Rattle.io.specs.Counts.{clamp_len}
 use Rattle.lists.specs.Tests.{true_not_false}
 use borrow.Author.Tests.{ltb-true}
 use Rattle.arrays.specs.Copies.{take_min}
@@ -13,6 +12,11 @@ use Rattle.protocol.specs.Parts.{State}
 use Rattle.store.specs.View.{view}
 use Rattle.transcript.specs.{Reading.{Reading, within, read_all, end_state}, Pieces.read_append, View.{reading, Ending}, declared.Ended.Ended}
 use Rattle.sitting.specs.declared.Session.{Session}
+
+-- What a read gave, as a number of a buffer's bytes: none where it failed, and never more than there are.
+abbrev pub clamp_len : ℤ → ℕ → ℕ
+clamp_len (pos k) most = min k most
+clamp_len (negsuc k) most = 0
 
 -- The reader took a beginning of the piece, and all of it where the input goes on.
 pub record Answered (r : Reading) (piece : List ℕ) (t : Session) (after : Reading) : Type 0 where

@@ -1,13 +1,18 @@
 // Frames from standard input, answers to standard output, in constant memory.
 #![tactic(auto)]
 
+ghost use Rattle.std.specs.Prelude.{◌≡◌, ◌<◌, ◌≤◌, ◌^◌, pos, negsuc, length, IfOk, MatchResult};
 ghost use Rattle.store.specs.View.{view};
 ghost use Rattle.transcript.specs.View.{reading, Ending};
-ghost use Rattle.sitting.specs.Turns.{Answered, Turned, Played};
+ghost use Rattle.sitting.specs.Turns.{Answered, Turned, Played, clamp_len};
 
-use libc::{STDIN_FILENO, STDOUT_FILENO};
+use std::io;
+use std::io::{Read, Stdin, Stdout};
 use store::STORE;
 use transcript::{Ended, LINE};
+
+// How many bytes the buffer of a read has, and the buffer for answers.
+const PIECE: usize = 65536;
 
 // How many bytes of the line under way there are, and whether the input goes on.
 #[derive(Clone, Copy)]
@@ -18,6 +23,7 @@ struct Session {
 
 // Feeds a piece of the input and writes the answers, as often as the buffer is full.
 fn answer(
+    stdout: Stdout,
     s: &mut [u64; STORE],
     line: &mut [u8; LINE],
     n: usize,
@@ -32,7 +38,7 @@ fn answer(
         let f = transcript::feed(s, line, len, &piece[at..], out);
         len = f.len;
         let written = f.written;
-        if !io::write_all(STDOUT_FILENO, &out[..written]) {
+        if stdout.write_all(&out[..written]).is_err() {
             return Session { len, more: false };
         }
         if f.taken == 0 {
@@ -44,17 +50,47 @@ fn answer(
 }
 
 // Answers a last line that has no newline.
-fn end(s: &mut [u64; STORE], line: &mut [u8; LINE], n: usize, out: &mut [u8]) -> Ended
+fn end(
+    stdout: Stdout,
+    s: &mut [u64; STORE],
+    line: &mut [u8; LINE],
+    n: usize,
+    out: &mut [u8],
+) -> Ended
     ensures { Ending (reading s.old line.old n) n out.old result s.new line.new out.new }
 {
     let e = transcript::finish(s, line, n, out);
     let written = e.written;
-    io::write_all(STDOUT_FILENO, &out[..written]);
+    let _ = stdout.write_all(&out[..written]);
     e
+}
+
+// What a read gave, as one number: how many bytes were read, or below 0 where it failed.
+fn number(got: io::Result<usize>) -> isize
+    requires { IfOk got (λ n. n < 2 ^ 63) }
+    ensures { MatchResult got (λ n. result ≡ pos n) (λ _. result ≡ negsuc 0) }
+{
+    match got {
+        Ok(n) => n as isize,
+        Err(_) => -1,
+    }
+}
+
+// How many bytes of the buffer that number stands for: none where the read failed, and never more than there are.
+fn count(got: isize, buf: &[u8]) -> usize
+    ensures in_bounds { result ≤ length buf.now }
+    ensures value { result ≡ clamp_len got (length buf.now) }
+{
+    if got > 0 {
+        (got as usize).min(buf.len())
+    } else {
+        0
+    }
 }
 
 // What a read gave goes to the reader: `got` bytes at the front of the input buffer.
 fn turn(
+    stdout: Stdout,
     s: &mut [u64; STORE],
     line: &mut [u8; LINE],
     n: usize,
@@ -71,37 +107,51 @@ fn turn(
         };
     }
     if got == 0 {
-        end(s, line, n, out);
+        end(stdout, s, line, n, out);
         return Session {
             len: n,
             more: false,
         };
     }
-    let k = io::count(got, input);
-    answer(s, line, n, &input[..k], out)
+    let k = count(got, input);
+    answer(stdout, s, line, n, &input[..k], out)
 }
 
 // Reads until the input ends, or a read or a write fails. A proved loop has to end, and nothing says that an input does: the turns are
 // counted down from a number that no run uses up.
-fn play(s: &mut [u64; STORE], line: &mut [u8; LINE], input: &mut [u8], out: &mut [u8])
+fn play(
+    mut stdin: Stdin,
+    stdout: Stdout,
+    s: &mut [u64; STORE],
+    line: &mut [u8; LINE],
+    input: &mut [u8],
+    out: &mut [u8],
+)
     ensures { Played (reading s.old line.old 0) (view s.new) }
 {
     let mut len = 0;
     let mut more = true;
     let mut turns = u64::MAX;
     while turns > 0 && more {
-        let got = libc::read(STDIN_FILENO, input);
-        let t = turn(s, line, len, input, got, out);
+        let got = number(stdin.read(input));
+        let t = turn(stdout, s, line, len, input, got, out);
         len = t.len;
         more = t.more;
         turns -= 1;
     }
 }
 
-fn main() {
-    let mut input = io::large_buffer();
-    let mut out = io::large_buffer();
+fn main(rt: HostRuntime) {
+    let mut input = [0u8; PIECE];
+    let mut out = [0u8; PIECE];
     let mut s = [0u64; STORE];
     let mut line = [0u8; LINE];
-    play(&mut s, &mut line, &mut input, &mut out);
+    play(
+        rt.stdin(),
+        rt.stdout(),
+        &mut s,
+        &mut line,
+        &mut input,
+        &mut out,
+    );
 }

@@ -1,40 +1,73 @@
 // Plays the lists that its arguments name, each whole, and writes each name and then the answers.
 #![tactic(auto)]
 
-use libc::STDOUT_FILENO;
+ghost use Rattle.std.specs.Prelude.{◌≤◌, length};
+
+use std::env::FillError;
+use std::fs::File;
+use std::io::Read;
+use std::rt::Env;
+use std::{io, str};
+
+// How many bytes a list may have, and its answers.
+const PIECE: usize = 65536;
+
+// How many bytes the name of a list may have.
+const NAME: usize = 4096;
+
+// Reads until the buffer is full, the file ends or a read fails; how many bytes stand at the front of the buffer.
+fn read_full(file: &mut File, buf: &mut [u8]) -> usize
+    ensures { result ≤ length buf.new }
+{
+    let mut done = 0;
+    while done < buf.len() {
+        let n = file.read(&mut buf[done..]).unwrap_or(0);
+        if n == 0 {
+            break;
+        }
+        done += n;
+    }
+    done
+}
 
 // A list has to fit the buffer; of a longer one the beginning is played.
-fn list(name: &[u8]) {
-    let fd = os::open_read(name);
-    if fd < 0 {
-        os::fail(name);
-        return;
-    }
-    let mut input = io::large_buffer();
-    let n = io::read_full(fd, &mut input);
-    libc::close(fd);
-    let mut out = io::large_buffer();
+fn list(rt: &HostRuntime, name: &str) -> io::Result<()> {
+    let mut file = match File::open(rt, name) {
+        Ok(file) => file,
+        Err(e) => return eprintln!(rt; "{name}: {e}"),
+    };
+    let mut input = [0u8; PIECE];
+    let n = read_full(&mut file, &mut input);
+    let mut out = [0u8; PIECE];
     let e = transcript::whole(&input[..n], &mut out);
     let written = e.written;
-    io::write_all(STDOUT_FILENO, name);
-    io::write_all(STDOUT_FILENO, b"\n");
-    io::write_all(STDOUT_FILENO, &out[..written]);
+    rt.write_all(name.as_bytes())?;
+    rt.write_all(b"\n")?;
+    rt.write_all(&out[..written])
 }
 
-fn argument(i: usize) {
-    let mut name = io::buffer();
-    let n = os::arg(i, &mut name);
-    if n == 0 {
-        return;
+// Plays the list that argument i names, where its name is neither empty nor too long; whether there is such an argument.
+fn argument(rt: &HostRuntime, i: usize) -> io::Result<bool> {
+    let mut name = [0u8; NAME];
+    let n = match rt.arg(i, &mut name) {
+        Ok(n) => n,
+        Err(FillError::TooLong) => 0,
+        Err(FillError::NotPresent) => return Ok(false),
+    };
+    if n > 0 {
+        match str::from_utf8(&name[..n]) {
+            Ok(name) => list(rt, name)?,
+            Err(_) => eprintln!(rt; "argument {i}: a name that is not UTF-8")?,
+        }
     }
-    list(&name[..n]);
+    Ok(true)
 }
 
-fn main() {
-    let n = os::arg_count();
-    let mut i = 1;
-    while i < n {
-        argument(i);
-        i += 1;
+fn main(rt: HostRuntime) -> io::Result<()> {
+    for i in 1..usize::MAX {
+        if !argument(&rt, i)? {
+            break;
+        }
     }
+    Ok(())
 }

@@ -4,25 +4,31 @@
 ghost use Rattle.std.specs.Prelude.{◌≤◌, length};
 
 use crashsets::ROOM;
-use libc::{STDIN_FILENO, STDOUT_FILENO};
+use std::io;
+use std::io::{Read, Stdin};
+
+// How many bytes of the input are read: more than the longest frame has.
+const PIECE: usize = 65536;
 
 // Reads once, behind the first n bytes; how many there are then.
-fn read_more(input: &mut [u8], n: usize) -> usize
+fn read_more(mut stdin: Stdin, input: &mut [u8], n: usize) -> usize
     requires { n ≤ length input.old }
     ensures { (n ≤ result) × (result ≤ length input.new) }
 {
-    let got = libc::read(STDIN_FILENO, &mut input[n..]);
-    n + io::count(got, &input[n..])
+    match stdin.read(&mut input[n..]) {
+        Ok(got) => n + got,
+        Err(_) => n,
+    }
 }
 
 // Reads until the first line is there, the input ends or the buffer is full; how many bytes there are. A line that fills the buffer is
 // too long for a frame, and so is its beginning.
-fn read_line(input: &mut [u8]) -> usize
+fn read_line(stdin: Stdin, input: &mut [u8]) -> usize
     ensures { result ≤ length input.new }
 {
     let mut n = 0;
     loop {
-        let k = read_more(input, n);
+        let k = read_more(stdin, input, n);
         if k == n {
             return n;
         }
@@ -33,10 +39,10 @@ fn read_line(input: &mut [u8]) -> usize
     }
 }
 
-fn main() {
-    let mut input = io::large_buffer();
+fn main(rt: HostRuntime) -> io::Result<()> {
+    let mut input = [0u8; PIECE];
     let mut out = [0u8; ROOM];
-    let n = read_line(&mut input);
+    let n = read_line(rt.stdin(), &mut input);
     let written = crashsets::survivors(&input[..n], &mut out);
-    io::write_all(STDOUT_FILENO, &out[..written]);
+    rt.write_all(&out[..written])
 }

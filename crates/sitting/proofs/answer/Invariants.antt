@@ -1,7 +1,5 @@
-use Rattle.std.specs.Prelude.{List, ◌≡◌, refl, ℕ, ◌+◌, ◌-◌, ◌≤◌, length, take, drop}
-use Rattle.std.proofs.Common.{sym, ap, ◌∙◌, arith, length-take, length-drop, length-take-le, take_all, take-add, rules}
-use Rattle.lists.specs.Tests.{true_not_false}
-use Rattle.transcript.specs.{Reading.{Reading, read_all}, View.reading, Pieces.read_append, Ends.{fed_fits, fed_taken}}
+use Rattle.std.specs.Prelude.{◌≡◌, ◌-◌, ◌≤◌, length, take}
+use Rattle.transcript.specs.{Reading.read_all, View.reading}
 use Rattle.sitting.proofs.answer.Given as goal
 
 abbrev pub invariant-loop-at : goal.invariant-loop-at

@@ -1,10 +1,9 @@
 -- `play`: while the input goes on, the reader has read some bytes. It ends: the measure is the number of turns that are left.
-use Rattle.std.specs.Prelude.{◌≡◌, refl, length, []}
-use Rattle.std.proofs.Common.{arith, rules}
-use mathlib.Core.Logic.{inl}
-use Rattle.store.specs.View.{view}
+use Rattle.std.specs.Prelude.{refl, []}
+use Rattle.std.proofs.Common.{rules}
+use Rattle.std.proofs.Math.Logic.{inl}
 use Rattle.transcript.specs.{Reading.{read_all, within}, View.reading}
-use Rattle.sitting.specs.Turns.{Goes_on, Played, turned, goes_further, plays_further}
+use Rattle.sitting.specs.Turns.{turned, goes_further, plays_further}
 use Rattle.sitting.proofs.play.Goals as goal
 
 pub loop-turns-init : goal.loop-turns-init

@@ -1,9 +1,7 @@
-use Rattle.std.specs.Prelude.{◌≡◌, refl, length, []}
-use Rattle.std.proofs.Common.{arith, rules}
-use mathlib.Core.Logic.{inl}
+use Rattle.std.specs.Prelude.{◌≡◌, length}
 use Rattle.store.specs.View.{view}
-use Rattle.transcript.specs.{Reading.{read_all, within}, View.reading}
-use Rattle.sitting.specs.Turns.{Goes_on, Played, turned, goes_further, plays_further}
+use Rattle.transcript.specs.View.{reading}
+use Rattle.sitting.specs.Turns.{Goes_on, Played}
 use Rattle.sitting.proofs.play.Given as goal
 
 abbrev pub invariant-loop-turns : goal.invariant-loop-turns

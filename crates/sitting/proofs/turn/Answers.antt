@@ -1,6 +1,5 @@
 -- `turn`: what a read gave goes to the reader, by its cases.
 use Rattle.std.specs.Prelude.{refl}
-use Rattle.std.proofs.Common.{rules}
 use Rattle.sitting.specs.Turns.{failed, at_end, given}
 use Rattle.sitting.proofs.turn.Goals as goal
 

@@ -1,10 +1,6 @@
-use Rattle.std.specs.Prelude.{◌++◌, ◌≡◌, ◌+◌, ◌-◌, ◌≤◌, ◌<◌, length, take, drop}
-use Rattle.std.proofs.Common.{sym, ap, ◌∙◌, arith, rules, length-drop, length-take-le, take_all}
-use Rattle.store.specs.{Places.STORE, View.{view, outcome}}
-use Rattle.arrays.specs.Copies.{take_min}
-use Rattle.lines.specs.LineEnd.{line_end, line_end_le, line_part}
-use Rattle.transcript.specs.{Reading.{answer_room, LINE, line_room, within}, Printed.printed_fits}
-use Rattle.transcript.specs.{Feeding.{FedSoFar, nothing_yet, fed_turn, fed_stop, at_end, no_room}, View.{reading, fed}}
+use Rattle.std.specs.Prelude.{◌≡◌, ◌-◌, ◌≤◌, length, take}
+use Rattle.store.specs.{Places.STORE, View.view}
+use Rattle.transcript.specs.{Reading.{LINE, within}, Feeding.FedSoFar}
 use Rattle.transcript.proofs.feed_on.Given as goal
 
 abbrev pub invariant-loop-out : goal.invariant-loop-out

@@ -1,8 +1,8 @@
 -- `keep` puts a piece behind the bytes of a line, as far as there is room. The invariant: i bytes are copied.
-use Rattle.std.specs.Prelude.{◌≡◌, refl, ◌+◌, ◌-◌, ◌≤◌, take}
+use Rattle.std.specs.Prelude.{◌≡◌, refl, ◌+◌, take}
 use Rattle.std.proofs.Common.{ap, ◌∙◌, arith, rules}
 use Rattle.std.proofs.Math.Seq.{paste, paste-zero}
-use Rattle.arrays.specs.Copies.{Copied, copy_one, kept_piece}
+use Rattle.arrays.specs.Copies.{copy_one, kept_piece}
 use Rattle.transcript.proofs.keep.Goals as goal
 
 pub loop-i-init : goal.loop-i-init

@@ -1,7 +1,5 @@
-use Rattle.std.specs.Prelude.{◌≡◌, refl, ◌+◌, ◌-◌, ◌≤◌, take}
-use Rattle.std.proofs.Common.{ap, ◌∙◌, arith, rules}
-use Rattle.std.proofs.Math.Seq.{paste, paste-zero}
-use Rattle.arrays.specs.Copies.{Copied, copy_one, kept_piece}
+use Rattle.std.specs.Prelude.{◌-◌, ◌≤◌}
+use Rattle.arrays.specs.Copies.{Copied}
 use Rattle.transcript.proofs.keep.Given as goal
 
 abbrev pub invariant-loop-i : goal.invariant-loop-i

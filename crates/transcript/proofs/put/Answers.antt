@@ -1,5 +1,5 @@
 -- `put` writes the line of an answer to the part of the buffer that is left.
-use Rattle.std.proofs.Common.{arith, rules, length-take, length-drop}
+use Rattle.std.proofs.Common.{arith, length-take, length-drop}
 use Rattle.transcript.specs.Printed.{printed_count, printed_put}
 use Rattle.transcript.proofs.put.Goals as goal
 
