@@ -1,8 +1,8 @@
--- The proved cases of document 02, Point 8: one table, one theorem.
-use Rattle.std.specs.Prelude.{◌≡◌, refl}
+-- The proved cases of document 02, Point 8: one table; proofs/Cases has the theorem.
+use Rattle.std.specs.Prelude.{◌≡◌}
 use Prim.Native.String.{String}
-use Rattle.protocol.specs.Cases.Computing.{text, opened}
-use Rattle.crashsets.specs.CrashSets.{sets, has_size, stands, survives, total, survived, decimals, decimal, field, count_line, counts, report, reported, of_first, survivors}
+use Rattle.protocol.specs.Cases.Computing.{text}
+use Rattle.crashsets.specs.CrashSets.{survivors}
 
 -- what an input gets
 abbrev pub Prints : String → String → Type 0
@@ -26,19 +26,3 @@ pub record Cases : Type 0 where
   pub empty_line : Prints "\n0102010201010000\n" "01\n"
   pub no_job : Prints "1401\n" "02\n"
   pub bad_job : Prints "0102010101010000\n" "03\n"
-
-pub cases : Cases
-unfolding opened survivors of_first reported report counts count_line field decimal decimals survived total survives stands has_size sets
-cases = record {
-  two_machines = refl;
-  previous_machine = refl;
-  in_pairs = refl;
-  on_a_ring = refl;
-  one_line = refl;
-  no_newline = refl;
-  nothing = refl;
-  garbled = refl;
-  empty_line = refl;
-  no_job = refl;
-  bad_job = refl;
-}

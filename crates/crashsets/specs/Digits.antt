@@ -1,10 +1,10 @@
--- Numbers of one and two digits, the line of f, and the lines of a job as the loop writes them.
-use Rattle.std.specs.Prelude.{◌≡◌, refl, List, [], ◌∷◌, ◌++◌, ℕ, zero, suc, ◌+◌, ◌-◌, ◌*◌, ◌^◌, ◌/◌, ◌%◌, ◌<◌, ◌≤◌, length}
-use Rattle.std.proofs.Common.{sym, ◌∙◌, append-nil, append_assoc, arith, length-append, lt-ltb, le-ltb, inl, inr}
-use Rattle.lists.specs.{Lists.gather, Counting.{counting, counting_next, counting_past}, Tests.lt?}
-use Rattle.arrays.specs.{Copies.{put_at, put_put, Wrote, wrote_put}, Loops.tally_le}
+-- Numbers of one and two digits, and the line of f. `proofs/Digits` has the lines of a job as the loop writes them.
+use Rattle.std.specs.Prelude.{◌≡◌, refl, List, [], ◌∷◌, ◌++◌, ℕ, zero, suc, ◌+◌, ◌^◌, ◌/◌, ◌%◌, ◌<◌, ◌≤◌, length}
+use Rattle.std.proofs.Common.{◌∙◌, arith, length-append, lt-ltb, le-ltb, inl, inr}
+use Rattle.lists.specs.{Tests.lt?}
+use Rattle.arrays.specs.{Copies.{put_at, put_put}, Loops.tally_le}
 use Rattle.protocol.specs.{Parts.Job, Lines.newline}
-use Rattle.crashsets.specs.{CrashSets.{total, survived, decimals, decimal, blank, field, count_line, counts}, Words.{total_words, survived_words, is_counted, is_survived}}
+use Rattle.crashsets.specs.{CrashSets.{total, survived, decimals, decimal, blank, field, count_line}, Words.{total_words, survived_words, is_counted, is_survived}}
 use Rattle.std.proofs.Math.Nat.{pow-le-pow_right}
 
 -- six lines of eight bytes
@@ -30,7 +30,7 @@ pub first_fits : (f x : ℕ) → f < 10 → length (field f x) ≡ 2
 first_fits f x h = rw (one_digit f x h)
 
 -- ---- the line of f
-line_fits : (f n k : ℕ) → f < 10 → n < 100 → k < 100 → length (count_line f n k) ≤ 8
+pub line_fits : (f n k : ℕ) → f < 10 → n < 100 → k < 100 → length (count_line f n k) ≤ 8
 unfolding count_line
 line_fits f n k small-f small_n small-k = simp length-append (omega (arith, first_fits f blank small-f, field_fits n blank small_n, field_fits k newline small-k))
 
@@ -60,36 +60,3 @@ module _ (j : Job) (f : ℕ) (few : j.machines ≤ 6) where
 
   pub survived_small : survived j f < 100
   survived_small = omega (arith, survived_words j f, tally_le (is_survived j f) (2 ^ j.machines) 0, sets_few)
-
--- ---- the loop over f: the lines of those before f are written to the front of a buffer that held room
-module _ (j : Job) where
-  abbrev line_of : ℕ → List ℕ
-  line_of f = count_line f (total j f) (survived j f)
-
-  pub record SoFar (room : List ℕ) (f w : ℕ) (out : List ℕ) : Type 0 where
-    pub printed : List ℕ
-    pub wrote : Wrote room printed w out
-    pub rest : counts j ≡ printed ++ gather line_of (counting (j.machines + 1 - f) f)
-    pub fits : w + 8 ≤ 8 * f
-
-  pub nothing_yet : (room : List ℕ) → SoFar room 1 0 room
-  unfolding counts
-  nothing_yet room = record { printed = []; wrote = record { count = refl; bytes = refl }; rest = let e : j.machines + 1 - 1 ≡ j.machines = omega arith in rw e; fits = omega arith }
-
-  module _ (few : j.machines ≤ 6) (room : List ℕ) (f w : ℕ) (out : List ℕ) (inv : SoFar room f w out) where
-    pub one_more : f ≤ j.machines → (n k v : ℕ) (next : List ℕ) → n ≡ total j f → k ≡ survived j f → v ≡ w + length (count_line f n k) → next ≡ put_at out w (count_line f n k) → SoFar room (f + 1) v next
-    unfolding gather
-    one_more h n k v next is-n is-k is-v is-next =
-        rw (is-v, is-next, is-n, is-k)
-        (record {
-          printed = inv.printed ++ line_of f;
-          wrote = wrote_put inv.wrote (line_of f);
-          rest = inv.rest ∙ rw (counting_next (j.machines + 1) f (omega arith)) (sym (append_assoc inv.printed (line_of f) _));
-          fits = omega (arith, inv.fits, line_fits f (total j f) (survived j f) (omega arith) (total_small j f few) (survived_small j f few));
-        })
-
-    pub all_lines : j.machines < f → Wrote room (counts j) w out
-    unfolding gather
-    all_lines h =
-        let e : counts j ≡ inv.printed = inv.rest ∙ rw (counting_past (j.machines + 1) f (omega arith), append-nil) in
-        rw e inv.wrote

@@ -1,12 +1,11 @@
 -- The first i records of a row were read, and all are good.
-use Rattle.std.specs.Prelude.{◌≡◌, refl, true, false, List, ℕ, suc, ◌+◌, ◌-◌, ◌<◌, ◌≤◌, cond, eqb, length, take, drop, get_or, set, replicate}
-use Rattle.std.proofs.Common.{sym, ap, ◌∙◌, inl, inr, arith, eq-eqb, ne_eqb, le-ltb, take-suc, drop-cons, length-set, get_or-set_same, get_or-set_other, length-take-le}
-use Rattle.std.proofs.Math.Seq.{drop-length}
+use Rattle.std.specs.Prelude.{◌≡◌, refl, true, List, ℕ, suc, ◌+◌, ◌-◌, ◌<◌, ◌≤◌, cond, eqb, length, take, get_or, set, replicate}
+use Rattle.std.proofs.Common.{sym, ap, ◌∙◌, inl, inr, arith, eq-eqb, ne_eqb, length-set, get_or-set_same, get_or-set_other}
 use Rattle.std.proofs.lemmas.List.{length-replicate}
 use Rattle.lists.specs.Tests.{either, eq?, lt?}
 use Rattle.arrays.specs.ArrayMap.{as_map, map_blank}
-use Rattle.precedes.specs.{declared.Processing.Processing, Precedes.{Name, name, origin, has_room, good, first_bad, bad_place}}
-use Rattle.precedes.specs.{Rows.{rec, nobody, Good, count_few, good_tn, good_chare}, Chains.{Place, previous, Linked}, Visits.{Falls}}
+use Rattle.precedes.specs.{declared.Processing.Processing, Precedes.{Name, name, origin, good}}
+use Rattle.precedes.specs.{Rows.{rec, Good, count_few, good_tn, good_chare}, Chains.{Place, previous, Linked}, Visits.{Falls}}
 use Rattle.precedes.specs.Links.{SLOTS, tabled, slot, found, Knows, table_in, found_new, found_old}
 
 pub record Reading (row : List Processing) (i : ℕ) (at before sent : List ℕ) : Type 0 where
@@ -128,26 +127,3 @@ module _ (row : List Processing) (i : ℕ) (at before sent : List ℕ) (r : Read
         before_blank = blank_more before i _ r.before_blank;
         sent_blank = blank_more sent i _ r.sent_blank;
       }
-
--- ---- the place of the first bad record
-pub bad_start : (row : List Processing) → bad_place row ≡ first_bad (take 0 row) (drop 0 row)
-unfolding bad_place
-bad_start row = refl
-
-pub bad_none : (row : List Processing) → first_bad (take (length row) row) (drop (length row) row) ≡ 0
-unfolding first_bad
-bad_none row = rw (drop-length row)
-
-module _ (row : List Processing) (i : ℕ) (l : i < length row) where
-  pub bad_next : good (take i row) (rec row i) ≡ true → first_bad (take i row) (drop i row) ≡ first_bad (take (suc i) row) (drop (suc i) row)
-  unfolding first_bad
-  bad_next g = rw (drop-cons row i nobody l, take-suc row i nobody l) (rw g)
-
-  pub bad_here : good (take i row) (rec row i) ≡ false → first_bad (take i row) (drop i row) ≡ i + 1
-  unfolding first_bad
-  bad_here g = rw (drop-cons row i nobody l) (rw g (rw (length-take-le i row (omega arith))))
-
-  -- past 512
-  pub bad_past : 512 ≤ i → good (take i row) (rec row i) ≡ false
-  unfolding good has_room
-  bad_past h = rw (length-take-le i row (omega arith), le-ltb i 512 h)

@@ -1,8 +1,8 @@
 -- What the rules give where the first n records of a row are good: a chare's processings stand in the order of their TNs, each once.
-use Rattle.std.specs.Prelude.{◌≡◌, refl, true, cond, List, [], ◌∷◌, ◌⊎◌, ℕ, zero, suc, ◌+◌, ◌-◌, ◌<◌, ◌≤◌, eqb, leb, length, take, get_or}
+use Rattle.std.specs.Prelude.{◌≡◌, refl, true, cond, List, [], ◌∷◌, ℕ, zero, suc, ◌+◌, ◌<◌, ◌≤◌, eqb, leb, length, take, get_or}
 use Rattle.std.proofs.Common.{sym, ◌∙◌, inl, inr, arith, eqb-true, eq-eqb, ne_eqb, leb-true, ltb-true, take-suc, get_or-take, length-take-le, length-append}
 use Rattle.lists.specs.{Tests.{either, eq?, lt?, and_l, and_r, and_i, and4, or_cases, or_l, or_r, true_not_false}, Lists.{anyb, keep, keep_append}}
-use Rattle.precedes.specs.{declared.Processing.Processing, Precedes.{Name, origin, named, stands, count, in_range, sender_known, tn_next, has_room, good}}
+use Rattle.precedes.specs.{declared.Processing.Processing, Precedes.{Name, named, stands, count, in_range, sender_known, tn_next, has_room, good}}
 
 -- no processing: what stands past the end
 abbrev pub nobody : Processing
@@ -106,12 +106,6 @@ module _ (row : List Processing) (i : ℕ) (g : good (take i row) (rec row i) �
   pub good_chare : (1 ≤ (rec row i).chare) × ((rec row i).chare ≤ 12)
   unfolding in_range
   good_chare = let e = and_l _ _ rules.1 in (leb-true _ _ (and_l _ _ e), leb-true _ _ (and_r (leb 1 (rec row i).chare) _ e))
-
-  pub good_sender : i ≤ length row → (((rec row i).sender ≡ 0) × ((rec row i).sender_tn ≡ 0)) ⊎ ((k : ℕ) × (k < i) × Is row k (origin (rec row i)))
-  unfolding sender_known
-  good_sender l = either (eqb (rec row i).sender 0)
-      (λ e. inl (eqb-true _ _ e, eqb-true _ _ (rw e at rules.2)))
-      (λ e. inr (stands_before (origin (rec row i)) row i l (rw e at rules.2)))
 
 -- ---- a chare's TNs among the first n records are 1 to their number, each once
 module _ (row : List Processing) (n : ℕ) (g : Good row n) where

@@ -52,7 +52,7 @@ pub extern "C" fn satuphir_feed(
     out: &mut [u8],
     written: &mut usize,
 ) -> usize
-    ensures { Feeding (reading store.old line.old len.entry.now) input.now out.old (record { len = len.exit.now; taken = result; written = written.new }) store.new line.new out.new }
+    ensures { Feeding (reading store.old line.old len.old) input.now out.old (record { len = len.new; taken = result; written = written.new }) store.new line.new out.new }
 {
     let n = *len;
     let f = transcript::feed(store, line, n, input, out);

@@ -1,6 +1,6 @@
 -- `put_number`: one digit or two, byte by byte.
 use Rattle.std.specs.Prelude.{◌≡◌, [], ◌∷◌, suc, ◌+◌}
-use Rattle.std.proofs.Common.{add-one, arith, rules, length-set}
+use Rattle.std.proofs.Common.{add-one, arith, length-set}
 use Rattle.std.proofs.lemmas.List.Edits.{sets-eq}
 use Rattle.crashsets.specs.Digits.{one_digit, two_digits}
 use Rattle.crashsets.proofs.put_number.Goals as goal

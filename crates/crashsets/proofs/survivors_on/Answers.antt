@@ -1,5 +1,5 @@
 -- `survivors_on`: what the first line gets, if there is one.
-use Rattle.std.proofs.Common.{sym, arith, rules, length-take-le}
+use Rattle.std.proofs.Common.{sym, arith, length-take-le}
 use Rattle.lines.specs.LineEnd.{line_end_le}
 use Rattle.crashsets.specs.First.{empty_input, some_input}
 use Rattle.crashsets.proofs.survivors_on.Goals as goal

@@ -1,8 +1,7 @@
-use Rattle.std.specs.Prelude.{◌≡◌, refl, ◌+◌, ◌-◌, ◌≤◌, length}
-use Rattle.std.proofs.Common.{◌∙◌, arith, rules}
-use Rattle.protocol.specs.Job.{machines_of, job_of}
+use Rattle.std.specs.Prelude.{◌≡◌, ◌+◌, ◌-◌, ◌≤◌, length}
+use Rattle.protocol.specs.Job.{job_of}
 use Rattle.frames.specs.Decode.{decoded}
-use Rattle.crashsets.specs.{Machines.few, Digits.{SoFar, nothing_yet, one_more, all_lines, total_small, survived_small}}
+use Rattle.crashsets.proofs.Digits.{SoFar}
 use Rattle.crashsets.proofs.write_counts.Given as goal
 
 abbrev pub invariant-loop-f : goal.invariant-loop-f

@@ -1,13 +1,7 @@
 -- `write_report`: by the frame that the line is.
-use Rattle.std.specs.Prelude.{List, [], ◌∷◌, ℕ}
-use Rattle.std.proofs.Common.{sym, ◌∙◌, rules}
+use Rattle.std.proofs.Common.{sym, ◌∙◌}
 use Rattle.crashsets.specs.First.{said, first_said, no_job_said, wrote_number}
-use types.Run.{miss}
 use Rattle.crashsets.proofs.write_report.Goals as goal
-
--- the tags of the frames but Garbled and Job
-abbrev others : List ℕ
-others = 2 ∷ 3 ∷ 4 ∷ 5 ∷ 6 ∷ 7 ∷ 8 ∷ 9 ∷ []
 
 pub write_counts-requires : goal.write_counts-requires
 write_counts-requires c = record { line_value = sym c.job_in_range.ensures ∙ c.if-job_in_range.true; in_bounds = c.requires }
@@ -29,5 +23,5 @@ returns-else-job_in_range c =
 
 pub returns-in_default : goal.returns-in_default
 returns-in_default c =
-    let other = no_job_said c.args.line.now c.read.result (λ e. miss others 0 tt (rw e at c.in_default.in_default-own.keys3)) (λ e. miss others 1 tt (rw e at c.in_default.in_default-own.keys3)) in
+    let other = no_job_said c.args.line.now c.read.result c.in_default.not-Garbled c.in_default.not-Job in
     rw (first_said _ _ c.read.ensures, other) (wrote_number 2 _ _ _ c.print-in_default.ensures.count c.print-in_default.ensures.bytes)

@@ -1,5 +1,4 @@
--- `number` goes by the cases of an answer. Assumes nothing.
-use borrow.Author.Rules.{rules}
+-- `number` goes by the cases of an answer.
 use Rattle.precedes.specs.Precedes.{number}
 use Rattle.precedes.proofs.number.Goals as goal
 
@@ -18,21 +17,3 @@ returns-in-Yes c = rw c.in-Yes.is
 pub returns-in-No : goal.returns-in-No
 unfolding number
 returns-in-No c = rw c.in-No.is
-
-pub enum_known-a : goal.enum_known-a
-enum_known-a c = search rules
-
-pub overflow_cast-result : goal.overflow_cast-result
-overflow_cast-result c = search rules
-
-pub overflow_add-result : goal.overflow_add-result
-overflow_add-result c = search rules
-
-pub enum_told-1 : goal.enum_told-1
-enum_told-1 c = search rules
-
-pub enum_told-in-Yes : goal.enum_told-in-Yes
-enum_told-in-Yes c = search rules
-
-pub enum_told-in-No : goal.enum_told-in-No
-enum_told-in-No c = search rules

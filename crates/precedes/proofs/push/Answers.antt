@@ -1,5 +1,4 @@
--- `push` meets its contract. Assumes nothing.
-use borrow.Author.Rules.{rules}
+-- `push` meets its contract.
 use Rattle.std.proofs.Common.{sym, arith}
 use Rattle.precedes.specs.Tables.{push_full, push_past, push_in}
 use Rattle.precedes.proofs.push.Goals as goal
@@ -12,15 +11,3 @@ returns-then-at-eq512 c = sym (push_past c.args.t c.args.p c.if-at-eq512.true)
 
 pub returns : goal.returns
 returns c = sym (push_in c.args.t c.args.p (omega (arith, c.if-at-eq512.false, c.if-at-gt512.false)))
-
-pub overflow_add-next : goal.overflow_add-next
-overflow_add-next c = search rules
-
-pub overflow_cast-p : goal.overflow_cast-p
-overflow_cast-p c = search rules
-
-pub offset_bounds-next-at : goal.offset_bounds-next-at
-offset_bounds-next-at c = search rules
-
-pub bounds-next-at : goal.bounds-next-at
-bounds-next-at c = search rules

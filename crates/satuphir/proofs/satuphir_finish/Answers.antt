@@ -1,7 +1,7 @@
 -- `satuphir_finish` gives what `finish` gives, as a number; then no line is under way, or the one that was.
-use Rattle.std.proofs.Common.{◌∙◌, rules}
-use mathlib.Core.Logic.{⊎_elim}
+use Rattle.std.proofs.Common.{◌∙◌}
 use Rattle.satuphir.proofs.satuphir_finish.Goals as goal
+use Rattle.satuphir.proofs.satuphir_finish.Goals.{then-e, else-e}
 
 pub returns : goal.returns
 returns c =
@@ -10,5 +10,5 @@ returns c =
       ended = f.result;
       ending = f.ensures;
       count = c.number.ensures;
-      left = ⊎_elim (λ w. w.1 ∙ rw w.0.taken) (λ w. w.1 ∙ rw w.0.left) c.if-e.branch;
+      left = elim c.if-e.branch [ then-e w ↦ ? | else-e w ↦ ? ];
     }

@@ -1,5 +1,4 @@
 -- `satuphir_survivors` writes where there is room.
-use Rattle.std.proofs.Common.{rules}
 use Rattle.satuphir.specs.Entry.{counted_lines, not_counted}
 use Rattle.satuphir.proofs.satuphir_survivors.Goals as goal
 

@@ -1,5 +1,4 @@
 -- `satuphir_transcript` counts what `whole` writes.
-use Rattle.std.proofs.Common.{rules}
 use Rattle.satuphir.specs.Entry.{entered}
 use Rattle.satuphir.proofs.satuphir_transcript.Goals as goal
 

@@ -1,22 +1,16 @@
 -- `count`: the words in turn. The invariant: those passed are counted.
-use Rattle.std.specs.Prelude.{◌≡◌, ◌-◌, ◌^◌, ◌≤◌}
-use Rattle.std.proofs.Common.{sym, ◌∙◌, arith, rules}
+use Rattle.std.proofs.Common.{sym, ◌∙◌, arith}
 use Rattle.protocol.specs.Job.{machines_of, job_of}
-use Rattle.frames.specs.Decode.{decoded}
-use Rattle.crashsets.specs.{Machines.{few, words_end}, Tallies.{Passed, none_passed, other_size, one_survived, one_lost, all_passed}}
+use Rattle.crashsets.specs.Machines.{few, words_end}
+use Rattle.crashsets.proofs.Tallies.{none_passed, other_size, one_survived, one_lost, all_passed}
 use Rattle.crashsets.proofs.sets.count.Goals as goal
 
--- LEFT overflow-shl-end
--- shl-end c = omega (arith, c.byte.ensures, few _ c.before.before.requires)
-
--- LEFT overflow-add-total
--- add_total c = let l = c.before.before.loop in search (needs, l.invariant.2.few)
+pub overflow_shl-end : goal.overflow_shl-end
+unfolding machines_of
+overflow_shl-end c = omega (arith, c.byte-m.ensures, few _ c.requires)
 
 pub survives-requires : goal.survives-requires
 survives-requires c = c.requires
-
--- LEFT overflow-add-survived
--- add-survived c = let l = c.before.before.before.before.loop in search (needs, l.invariant.2.fewer)
 
 pub loop-word-init : goal.loop-word-init
 unfolding machines_of
@@ -26,18 +20,18 @@ pub loop-word-preserved-then-survives : goal.loop-word-preserved-then-survives
 unfolding job_of
 loop-word-preserved-then-survives c =
     let l = c.loop-word in
-    (l.invariant.0, l.invariant.1, one_survived _ _ _ _ _ l.invariant.2 (omega arith) c.if-set-f.true (sym c.survives.ensures ∙ c.if-survives.true))
+    (l.invariant.0, l.invariant.1, one_survived _ _ _ _ _ l.invariant.2 (omega arith) (omega arith) (sym c.survives.ensures ∙ c.if-survives.true))
 
 pub loop-word-preserved-else-survives : goal.loop-word-preserved-else-survives
 unfolding job_of
 loop-word-preserved-else-survives c =
     let l = c.loop-word in
-    (l.invariant.0, l.invariant.1, one_lost _ _ _ _ _ l.invariant.2 (omega arith) c.if-set-f.true (sym c.survives.ensures ∙ c.if-survives.false))
+    (l.invariant.0, l.invariant.1, one_lost _ _ _ _ _ l.invariant.2 (omega arith) (omega arith) (sym c.survives.ensures ∙ c.if-survives.false))
 
 pub loop-word-preserved : goal.loop-word-preserved
 loop-word-preserved c =
     let l = c.loop-word in
-    (l.invariant.0, l.invariant.1, other_size _ _ _ _ _ l.invariant.2 (omega arith) c.if-set-f.false)
+    (l.invariant.0, l.invariant.1, other_size _ _ _ _ _ l.invariant.2 (omega arith) (omega arith))
 
 pub returns : goal.returns
 returns c =

@@ -1,8 +1,7 @@
 use Rattle.std.specs.Prelude.{◌≡◌, ◌-◌, ◌^◌, ◌≤◌}
-use Rattle.std.proofs.Common.{sym, ◌∙◌, arith, rules}
-use Rattle.protocol.specs.Job.{machines_of, job_of}
+use Rattle.protocol.specs.Job.{job_of}
 use Rattle.frames.specs.Decode.{decoded}
-use Rattle.crashsets.specs.{Machines.{few, words_end}, Tallies.{Passed, none_passed, other_size, one_survived, one_lost, all_passed}}
+use Rattle.crashsets.proofs.Tallies.{Passed}
 use Rattle.crashsets.proofs.sets.count.Given as goal
 
 abbrev pub invariant-loop-word : goal.invariant-loop-word

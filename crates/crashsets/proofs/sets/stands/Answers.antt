@@ -1,6 +1,5 @@
 -- `stands`: bit p - 1 of the word.
 use Rattle.std.specs.Prelude.{◌-◌, ◌/◌, ◌^◌}
-use Rattle.std.proofs.Common.{rules}
 use Rattle.window.specs.Bits.{bits}
 use lib.Bits.{and_mask}
 use Rattle.crashsets.proofs.sets.stands.Goals as goal

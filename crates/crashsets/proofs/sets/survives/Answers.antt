@@ -1,10 +1,9 @@
 -- `survives`: from the last machine on. The invariant: those passed are not together with their buddies.
-use Rattle.std.specs.Prelude.{◌≡◌, ◌≤◌, not}
+use Rattle.std.specs.Prelude.{◌≡◌}
 use Rattle.std.proofs.Common.{sym, ◌∙◌, arith, rules}
 use Rattle.lists.specs.Lists.{allb}
-use Rattle.protocol.specs.Job.{machines_of, job_of}
-use Rattle.frames.specs.Decode.{decoded}
-use Rattle.crashsets.specs.{CrashSets.{survives, stands}, Words.set_of, Together.{meets, passes}}
+use Rattle.protocol.specs.Job.{machines_of}
+use Rattle.crashsets.specs.{CrashSets.{survives}, Words.set_of, Together.{meets, passes}}
 use Rattle.crashsets.proofs.sets.survives.Goals as goal
 
 pub loop-p-init : goal.loop-p-init

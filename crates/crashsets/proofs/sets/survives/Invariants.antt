@@ -1,9 +1,8 @@
 use Rattle.std.specs.Prelude.{◌≡◌, ◌≤◌, not}
-use Rattle.std.proofs.Common.{sym, ◌∙◌, arith, rules}
 use Rattle.lists.specs.Lists.{allb}
 use Rattle.protocol.specs.Job.{machines_of, job_of}
 use Rattle.frames.specs.Decode.{decoded}
-use Rattle.crashsets.specs.{CrashSets.{survives, stands}, Words.set_of, Together.{meets, passes}}
+use Rattle.crashsets.specs.{CrashSets.{survives, stands}, Words.set_of}
 use Rattle.crashsets.proofs.sets.survives.Given as goal
 
 abbrev pub invariant-loop-p : goal.invariant-loop-p

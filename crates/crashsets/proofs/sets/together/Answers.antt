@@ -1,5 +1,5 @@
 -- `together`: the machine's bit, and its buddy's.
-use Rattle.std.proofs.Common.{sym, ◌∙◌, arith, rules}
+use Rattle.std.proofs.Common.{sym, ◌∙◌, arith}
 use Rattle.std.proofs.lemmas.Bool.{not-true, not-false}
 use Rattle.crashsets.specs.Machines.{few, buddy_low, buddy_high}
 use Rattle.crashsets.proofs.sets.together.Goals as goal
@@ -12,9 +12,10 @@ returns-then-not-stands c = rw (sym c.stands.ensures ∙ not-true _ c.if-not-sta
 
 pub stands-requires-2 : goal.stands-requires-2
 stands-requires-2 c =
-    let p = c.requires in
+    let g = c.requires.line_value in
+    let p = c.requires.le_p in
     let e = c.buddy_of.ensures in
-    (omega (arith, e, buddy_low _ p.0 c.args.p p.1.0 p.1.1), omega (arith, e, buddy_high _ p.0 c.args.p p.1.0 p.1.1, few _ p.0))
+    (omega (arith, e, buddy_low _ g c.args.p p.0 p.1), omega (arith, e, buddy_high _ g c.args.p p.0 p.1, few _ g))
 
 pub returns : goal.returns
 returns c =

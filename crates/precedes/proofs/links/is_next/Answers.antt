@@ -1,5 +1,4 @@
--- `links::is_next` meets its contract. Assumes nothing.
-use borrow.Author.Rules.{rules}
+-- `links::is_next` meets its contract.
 use Rattle.std.specs.Prelude.{◌≡◌, true, leb}
 use Rattle.std.proofs.Common.{sym, arith, eq-eqb, ne_eqb, le-leb}
 use Rattle.precedes.specs.Links.{next_by}
@@ -23,12 +22,3 @@ pub returns : goal.returns
 unfolding next_by
 returns c =
     rw ((let h : leb 1 c.args.tn ≡ true = le-leb 1 c.args.tn (omega (arith, c.if-tn-eq0.false)) in h), sym c.find.ensures, eq-eqb _ 0 c.if-find-ne0.false, ne_eqb _ 1 c.if-tn-eq1.false, c.find-2.ensures)
-
-pub find-requires : goal.find-requires
-find-requires c = search rules
-
-pub overflow_sub-tn : goal.overflow_sub-tn
-overflow_sub-tn c = search rules
-
-pub find-requires-2 : goal.find-requires-2
-find-requires-2 c = search rules

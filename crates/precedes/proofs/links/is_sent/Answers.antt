@@ -1,5 +1,4 @@
--- `links::is_sent` meets its contract. Assumes nothing.
-use borrow.Author.Rules.{rules}
+-- `links::is_sent` meets its contract.
 use Rattle.std.proofs.Common.{eq-eqb, ne_eqb}
 use Rattle.precedes.specs.Links.{sent_by}
 use Rattle.precedes.proofs.links.is_sent.Goals as goal
@@ -9,6 +8,3 @@ returns-then-sender-eq0 c = unfold sent_by in rw (eq-eqb _ 0 c.if-sender-eq0.tru
 
 pub returns : goal.returns
 returns c = unfold sent_by in rw (ne_eqb _ 0 c.if-sender-eq0.false, c.find.ensures)
-
-pub find-requires : goal.find-requires
-find-requires c = search rules

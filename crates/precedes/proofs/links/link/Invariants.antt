@@ -1,13 +1,6 @@
-use borrow.Author.Rules.{rules}
-use Rattle.std.specs.Prelude.{◌≡◌, true, ◌-◌, length, get_or}
-use Rattle.std.proofs.Common.{sym, ◌∙◌, arith}
-use Rattle.std.proofs.lemmas.Bool.{not-true, not-false}
-use Rattle.std.proofs.lemmas.List.{length-map}
-use Rattle.precedes.specs.{Rows.nobody, Links.admits}
-use Rattle.precedes.specs.Steps.{SoFar, at_kept, before_kept, sent_kept, none_read, all_read, past_bad, one_bad, record_tabled, one_more}
-use denote.Struct.Laws as LL
-use Rattle.precedes.specs.contracts.Table as T
-use Rattle.precedes.proofs.Table.TheLaws as T'
+-- The first i records were read, and all are good.
+use Rattle.std.proofs.Common.{◌-◌}
+use Rattle.precedes.proofs.Steps.{SoFar}
 use Rattle.precedes.proofs.links.link.Given as goal
 
 abbrev pub invariant-loop-i : goal.invariant-loop-i

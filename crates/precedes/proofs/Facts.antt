@@ -5,7 +5,8 @@ use Rattle.std.proofs.Common.{sym, ap, ◌∙◌, inl, inr, arith}
 use Rattle.lists.specs.Tests.{either, eq?, true_not_false}
 use Rattle.precedes.specs.{declared.Processing.Processing, declared.Answer.Answer, declared.Answer.TheVariants.{Bad, Unknown, Yes, No}}
 use Rattle.precedes.specs.Precedes.{Name, name, origin, good, first_bad, bad_place, Chain, on_chare, through_sender, through, Right}
-use Rattle.precedes.specs.{Rows.{rec, Is, Good, stands_at, good_tn, good_chare, good_sender, is_low, once}, Chains.{named_in, end_stands, chain_forward}, Reading.{bad_start, bad_none, bad_next, bad_here, bad_past}}
+use Rattle.precedes.specs.{Rows.{rec, Is, Good, stands_at, good_tn, good_chare, is_low, once}}
+use Rattle.precedes.proofs.{Rows.{good_sender}, Chains.{named_in, end_stands, chain_forward}, Reading.{bad_start, bad_none, bad_next, bad_here, bad_past}}
 
 -- ---- the place of the first bad record
 -- as far as all are good, the search goes on

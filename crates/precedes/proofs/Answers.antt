@@ -5,8 +5,9 @@ use Rattle.std.proofs.Math.Bool.{and-false}
 use Rattle.std.proofs.Math.Seq.{take-length}
 use Rattle.lists.specs.Tests.{and_i, true_not_false}
 use Rattle.precedes.specs.{declared.Processing.Processing, declared.Answer.TheVariants.{Unknown, Yes, No}, Precedes.{Name, stands, bad_place, Right}}
-use Rattle.precedes.specs.{Rows.{Is, good_room}, Chains.{chain_forward, reach_chain, chain_reach}, Visits.{Marked, Whole, Visited}}
+use Rattle.precedes.specs.{Rows.{Is, good_room}, Visits.{Marked, Whole, Visited}}
 use Rattle.precedes.specs.{Links.{found, known_stands}, Reading.{Reading, blank}}
+use Rattle.precedes.proofs.Chains.{chain_forward, reach_chain, chain_reach}
 
 abbrev pub unmarked : List Bool
 unmarked = replicate 512 false

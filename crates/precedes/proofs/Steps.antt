@@ -3,8 +3,9 @@ use Rattle.std.specs.Prelude.{◌≡◌, refl, true, false, List, ℕ, suc, ◌+
 use Rattle.std.proofs.Common.{sym, ap, ◌∙◌, arith, add-one}
 use Rattle.std.proofs.lemmas.List.{length-replicate}
 use Rattle.precedes.specs.{declared.Processing.Processing, declared.Table.Table, Precedes.{name, origin, good, first_bad, bad_place}, Rows.{nobody, rec}, Chains.previous}
-use Rattle.precedes.specs.{Tables.{held, held_length, held_record}, Links.{SLOTS, tabled, slot, found, admits, admits_right}}
-use Rattle.precedes.specs.Reading.{Reading, read_to, read_all, read_some, zeros, reading_none, reading_more, the_tabled, bad_start, bad_none, bad_next, bad_here, bad_past}
+use Rattle.precedes.specs.{Tables.{held, held_length, held_record}, Links.{SLOTS, tabled, slot, found, admits}}
+use Rattle.precedes.specs.Reading.{Reading, read_to, read_all, read_some, zeros, reading_none, reading_more, the_tabled}
+use Rattle.precedes.proofs.{Admitted.{admits_right}, Reading.{bad_start, bad_none, bad_next, bad_here, bad_past}}
 
 pub record SoFar (t : Table) (n i : ℕ) (at before sent : List ℕ) : Type 0 where
   pub long : length t.records ≡ 512
