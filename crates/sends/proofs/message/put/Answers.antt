@@ -19,7 +19,8 @@ returns-in-Remote c =
 
 pub returns-in-Found : goal.returns-in-Found
 returns-in-Found c =
-    unfold wire_by to_words in rw c.in-Found.is (record { row = becomes_same packets _ refl; words = refl })
+    unfold to_words wire_by in
+    rw c.in-Found.is (record { row = becomes_same packets _ refl; words = refl })
 
 pub returns-in-New : goal.returns-in-New
 unfolding wire_by to_words fit_content
