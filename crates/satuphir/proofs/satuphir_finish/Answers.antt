@@ -10,5 +10,5 @@ returns c =
       ended = f.result;
       ending = f.ensures;
       count = c.number.ensures;
-      left = elim c.if-e.branch [ then-e w ↦ ? | else-e w ↦ ? ];
+      left = elim c.if-e.branch [ then-e w ↦ w.len-is ∙ rw w.if-e.true | else-e w ↦ w.len-is ∙ rw w.if-e.false ];
     }
