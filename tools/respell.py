@@ -4,8 +4,8 @@
 usage: tools/respell.py            (writes the files in place; prints each name that was changed)
 
 A name that a file of specs/ or proofs/ declares with a dash (`log-room`) gets an underscore (`log_room`), wherever an .antt or an .rt
-file names it, and in backquotes in comments and in the documents. Where the new name would meet another one, KEPT or OTHER says what is
-done. Names that the prover makes for a function's goals (proofs/F/, behind `tie.`) stay.
+file names it, and in backquotes in comments and in the documents. OTHER has the names that get another one than the plain
+spelling. Names that the prover makes for a function's goals (proofs/F/, behind `tie.`) stay.
 """
 import os, re, sys
 

@@ -7,7 +7,7 @@ use std::env::FillError;
 use std::fs::File;
 use std::io::Read;
 use std::rt::Env;
-use std::{io, str};
+use std::str;
 
 // How many bytes a list may have, and its answers.
 const PIECE: usize = 65536;
@@ -30,44 +30,48 @@ fn read_full(file: &mut File, buf: &mut [u8]) -> usize
     done
 }
 
-// A list has to fit the buffer; of a longer one the beginning is played.
-fn list(rt: &HostRuntime, name: &str) -> io::Result<()> {
+// A list has to fit the buffer; of a longer one the beginning is played. What cannot be written is passed over.
+fn list(rt: &HostRuntime, name: &str) {
     let mut file = match File::open(rt, name) {
         Ok(file) => file,
-        Err(e) => return eprintln!(rt; "{name}: {e}"),
+        Err(e) => {
+            let _ = eprintln!(rt; "{name}: {e}");
+            return;
+        }
     };
     let mut input = [0u8; PIECE];
     let n = read_full(&mut file, &mut input);
     let mut out = [0u8; PIECE];
     let e = transcript::whole(&input[..n], &mut out);
     let written = e.written;
-    rt.write_all(name.as_bytes())?;
-    rt.write_all(b"\n")?;
-    rt.write_all(&out[..written])
+    let _ = rt.write_all(name.as_bytes());
+    let _ = rt.write_all(b"\n");
+    let _ = rt.write_all(&out[..written]);
 }
 
 // Plays the list that argument i names, where its name is neither empty nor too long; whether there is such an argument.
-fn argument(rt: &HostRuntime, i: usize) -> io::Result<bool> {
+fn argument(rt: &HostRuntime, i: usize) -> bool {
     let mut name = [0u8; NAME];
     let n = match rt.arg(i, &mut name) {
         Ok(n) => n,
         Err(FillError::TooLong) => 0,
-        Err(FillError::NotPresent) => return Ok(false),
+        Err(FillError::NotPresent) => return false,
     };
     if n > 0 {
         match str::from_utf8(&name[..n]) {
-            Ok(name) => list(rt, name)?,
-            Err(_) => eprintln!(rt; "argument {i}: a name that is not UTF-8")?,
+            Ok(name) => list(rt, name),
+            Err(_) => {
+                let _ = eprintln!(rt; "argument {i}: a name that is not UTF-8");
+            }
         }
     }
-    Ok(true)
+    true
 }
 
-fn main(rt: HostRuntime) -> io::Result<()> {
+fn main(rt: HostRuntime) {
     for i in 1..usize::MAX {
-        if !argument(&rt, i)? {
+        if !argument(&rt, i) {
             break;
         }
     }
-    Ok(())
 }
