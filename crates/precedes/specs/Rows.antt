@@ -91,7 +91,7 @@ count_few c row (suc i) l = elim (eq? (rec row i).chare c) [
 
 -- ---- what each rule says of record i
 module _ (row : List Processing) (i : ℕ) (g : good (take i row) (rec row i) ≡ true) where
-  rules : (has_room (take i row) ≡ true) × (in_range (rec row i) ≡ true) × (sender_known (take i row) (rec row i) ≡ true) × (tn_next (take i row) (rec row i) ≡ true)
+  pub rules : (has_room (take i row) ≡ true) × (in_range (rec row i) ≡ true) × (sender_known (take i row) (rec row i) ≡ true) × (tn_next (take i row) (rec row i) ≡ true)
   unfolding good
   rules = and4 _ _ _ _ g
 

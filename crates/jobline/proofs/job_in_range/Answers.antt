@@ -35,4 +35,4 @@ unfolding job_in_range buddies_in_range chares_in_range between machines_of char
 returns c =
     c.chares_in_range.ensures
     ∙ rw (sym c.buddies_in_range.ensures ∙ c.if-not-buddies_in_range.false, ← c.byte-m.ensures, le-leb _ _ c.if-m-lt2.false, le-leb _ _ c.if-m-gt6.false)
-    (rw (← c.byte-c.ensures, le-leb _ _ c.if-c-lt1.false, le-leb _ _ c.if-c-gt12.false))
+    (rw (← c.byte-c.ensures, le-leb 1 _ c.if-c-lt1.false, le-leb _ _ c.if-c-gt12.false))
