@@ -55,6 +55,7 @@ wrong sitting "reads another file" 'number(stdin.read(input))' 'number(io::empty
 wrong sitting "writes the answers to another file" "$imports" "$with_write" 'if stdout.write_all(' 'if io::sink().write_all('
 wrong sitting "writes the last answer to another file" "$imports" "$with_write" 'let _ = stdout.write_all(' 'let _ = io::sink().write_all('
 wrong survivors "drops the piece that ends the line" 'return k;' 'return n;'
+wrong sittings "takes nothing of a list" 'if n == 0 {' 'if n < 99999 {'
 wrong sittings "writes a blank after a name" 'let _ = rt.write_all(b"\n");' 'let _ = rt.write_all(b" ");'
 echo "$refused wrong programs refused by a run, $others not"
 [ $others -eq 0 ]
