@@ -1,6 +1,7 @@
 #!/usr/bin/env bash
 # sitting.sh LIST: plays a list of digits, - for standard input, with the proved program `sitting`. The first time the program is proved
-# and built, which takes minutes. The program passes over a read or a write that fails, and ends with status 0; `tools/satuphir play` says so.
+# and built, which takes minutes. The program cannot say that reading or writing failed: it passes over that, and ends with status 0.
+# `tools/satuphir play` can.
 set -euo pipefail
 root=$(cd "$(dirname "$(readlink -f -- "${BASH_SOURCE[0]}")")/.." && pwd)
 say() { echo "sitting.sh: $*" >&2; }
