@@ -50,10 +50,10 @@ wrong() { # CRATE WHAT OLD NEW [OLD NEW]...
   cp -p "$work/right/$crate" "$work/target/bin/$crate"
 }
 imports='use std::io::{Read, Stdin, Stdout};' with_write='use std::io::{Read, Stdin, Stdout, Write};'
-wrong sitting "reads twice and stops" 'let mut turns = u64::MAX;' 'let mut turns = 2u64;'
-wrong sitting "reads another file" 'number(stdin.read(input))' 'number(io::empty().read(input))'
-wrong sitting "writes the answers to another file" "$imports" "$with_write" 'if stdout.write_all(' 'if io::sink().write_all('
-wrong sitting "writes the last answer to another file" "$imports" "$with_write" 'let _ = stdout.write_all(' 'let _ = io::sink().write_all('
+wrong sitting "reads twice and stops" 'for _ in 0..u64::MAX {' 'for _ in 0..2u64 {'
+wrong sitting "reads another file" 'stdin.read(input).ok()' 'std::io::empty().read(input).ok()'
+wrong sitting "writes the answers to another file" "$imports" "$with_write" 'if stdout.write_all(' 'if std::io::sink().write_all('
+wrong sitting "writes the last answer to another file" "$imports" "$with_write" 'let _ = stdout.write_all(' 'let _ = std::io::sink().write_all('
 wrong survivors "drops the piece that ends the line" 'return k;' 'return n;'
 wrong sittings "takes nothing of a list" 'if n == 0 {' 'if n < 99999 {'
 wrong sittings "writes a blank after a name" 'let _ = rt.write_all(b"\n");' 'let _ = rt.write_all(b" ");'

@@ -25,17 +25,6 @@ module _ {A : Type 0} where
     | inr h ↦ let e : min n (length l) ≡ length l = omega arith in rw e (take_all (length l) l (omega arith) ∙ sym (take_all n l h))
   ]
 
-  -- ---- a loop that copies s into d from `at` on: i elements are there
-  pub record Copied (d : List A) (at : ℕ) (s : List A) (i : ℕ) (out : List A) : Type 0 where
-    pub long : length out ≡ length d
-    pub same : out ≡ paste d at s i
-
-  pub copy_one : (d : List A) (at : ℕ) (s : List A) (i : ℕ) (out : List A) (z : A) → Copied d at s i out → at + i < length d → i < length s → Copied d at s (i + 1) (set out (at + i) (get_or s i z))
-  copy_one d at s i out z c h g = record {
-    long = length-set out (at + i) (get_or s i z) ∙ c.long;
-    same = ap (λ l. set l (at + i) (get_or s i z)) c.same ∙ rw add-one (paste-suc d at s i z h g);
-  }
-
   -- a piece is put behind the first n, as far as there is room
   pub kept_piece : (l : List A) (n : ℕ) (p : List A) (k : ℕ) → n ≤ length l → k ≡ min (length p) (length l - n) → take (n + k) (paste l n p k) ≡ take (length l) (take n l ++ p)
   kept_piece l n p k h e =

@@ -1,7 +1,7 @@
 -- Loops that count: a test put to each number of a range, and how many pass it.
 use Rattle.std.specs.Prelude.{Bool, true, false, not, ◌&&◌, ◌||◌, List, [], ◌∷◌, ◌≡◌, refl, ℕ, zero, suc, ◌+◌, ◌-◌, ◌<◌, ◌≤◌, length}
-use Rattle.std.proofs.Common.{sym, ◌∙◌, arith}
-use Rattle.lists.specs.{Lists.{allb, keep}, Counting.{counting, counting_next, counting_past}, Tests.either}
+use Rattle.std.proofs.Common.{sym, ap, ◌∙◌, inl, inr, arith}
+use Rattle.lists.specs.{Lists.{allb, keep}, Counting.{counting, counting_next, counting_past}, Tests.{either, eq?}}
 
 -- the test p passes at n numbers from k on
 abbrev pub each : (ℕ → Bool) → ℕ → ℕ → Bool
@@ -22,6 +22,21 @@ module _ (p : ℕ → Bool) (e k : ℕ) (a : Bool) (inv : a ≡ each p (e - k) k
   pub each_end : e ≤ k → true ≡ a
   unfolding allb
   each_end h = sym (inv ∙ rw (counting_past e k h))
+
+-- what `all` over a range finds
+module _ (p : ℕ → Bool) where
+  pub all_pass : (n k : ℕ) → ((i : ℕ) → k ≤ i → i < n + k → p i ≡ true) → each p n k ≡ true
+  unfolding allb counting
+  all_pass zero k h = refl
+  all_pass (suc n) k h = rw (h k (omega arith) (omega arith)) (all_pass n (suc k) (λ i l r. h i (omega arith) (omega arith)))
+
+  pub one_fails : (n k i : ℕ) → k ≤ i → i < n + k → p i ≡ false → each p n k ≡ false
+  unfolding allb counting
+  one_fails zero k i l r e = absurd (omega arith)
+  one_fails (suc n) k i l r e = elim (eq? i k) [
+    | inl q ↦ rw (ap p (sym q) ∙ e)
+    | inr d ↦ either (p k) (λ y. rw y (one_fails n (suc k) i (omega arith) (omega arith) e)) (λ y. rw y)
+  ]
 
 -- a test of those that are kept
 pub allb_keep : {A : Type 0} (p g : A → Bool) (l : List A) → allb p (keep g l) ≡ allb (λ x. not (g x) || p x) l

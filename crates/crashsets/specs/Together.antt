@@ -1,41 +1,39 @@
--- The loop over the machines of a set, from the last on: does one stand together with its buddy?
-use Rattle.std.specs.Prelude.{◌≡◌, Bool, true, false, cond, not, ◌&&◌, List, ◌∷◌, ℕ, suc, ◌-◌, ◌≤◌}
-use Rattle.std.proofs.Common.{sym, ap, ◌∙◌, arith}
-use Rattle.lists.specs.{Tests.{either, and_l, and_r}, Lists.allb}
+-- Does a machine of a set stand together with its buddy? The machines 1 to M are asked in turn.
+use Rattle.std.specs.Prelude.{◌≡◌, refl, Bool, true, false, not, ◌&&◌, ◌||◌, List, ◌∷◌, ℕ, zero, suc, ◌+◌, ◌-◌, ◌≤◌}
+use Rattle.std.proofs.Common.{◌∙◌, arith}
+use Rattle.std.proofs.Math.Bool.{and-true, and_assoc, and_comm}
+use Rattle.lists.specs.{Tests.either, Lists.allb, Counting.counting}
+use Rattle.arrays.specs.Loops.{each}
 use Rattle.protocol.specs.Job.{machines_of, job_in_range, job_of}
 use Rattle.window.specs.Bits.{bits}
-use Rattle.crashsets.specs.{CrashSets.stands, Machines.{buddy_low, buddy_high}, Words.{set_of, stands_bit}}
+use Rattle.crashsets.specs.{CrashSets.{stands, survives}, Machines.{buddy_low, buddy_high}, Words.{set_of, stands_bit}}
 
--- p is the next, and those below it follow
-module _ (b : List ℕ) (good : job_in_range b ≡ true) (w p : ℕ) (least : 1 ≤ p) (most : p ≤ machines_of b) where
-  abbrev buddy : ℕ → ℕ
-  buddy = (job_of b).buddy
+-- one number more
+each_last : (t : ℕ → Bool) (n k : ℕ) → each t (suc n) k ≡ (each t n k && t (n + k))
+unfolding allb counting
+each_last t zero k = let e : 0 + k ≡ k = omega arith in rw (e, and-true (t k))
+each_last t (suc n) k = let e : n + suc k ≡ suc n + k = omega arith in rw (each_last t n (suc k), e, and_assoc (t k))
 
-  abbrev set : List ℕ
-  set = set_of (machines_of b) w
+-- a test of the machines in a word's set, put to all machines
+module _ (w : ℕ) (g t : ℕ → Bool) where
+  all_asked : (m : ℕ) → ((p : ℕ) → 1 ≤ p → p ≤ m → t p ≡ (not (bits w (p - 1)) || g p)) → allb g (set_of m w) ≡ each t m 1
+  unfolding allb set_of counting
+  all_asked zero h = refl
+  all_asked (suc m) h =
+      let rest = all_asked m (λ p l k. h p l (omega arith)) in
+      let last = h (suc m) (omega arith) (omega arith) in
+      let e : m + 1 ≡ suc m = omega arith in
+      let f : suc m - 1 ≡ m = omega arith in
+      either (bits w m)
+      (λ q. rw (each_last t m 1, e, last, f, q, rest, and_comm (g (suc m))))
+      (λ q. rw (each_last t m 1, e, last, f, q, rest, and-true (each t m 1)))
 
-  -- the set has not q's buddy
-  abbrev apart : ℕ → Bool
-  apart q = not (stands set (buddy q))
+-- machine p does not stand together with its buddy
+abbrev pub alone : List ℕ → ℕ → ℕ → Bool
+alone b w p = not (bits w (p - 1) && bits w ((job_of b).buddy p - 1))
 
-  its_bit : stands set (buddy p) ≡ bits w (buddy p - 1)
-  its_bit = stands_bit (machines_of b) w (buddy p) (buddy_low b good p least most) (buddy_high b good p least most)
-
-  next : set_of p w ≡ cond (bits w (p - 1)) (p ∷ set_of (p - 1) w) (set_of (p - 1) w)
-  unfolding set_of
-  next = let e : p ≡ suc (p - 1) = omega arith in ap (λ k. set_of k w) e ∙ rw (← e)
-
-  module _ (a : Bool) (inv : a ≡ allb apart (set_of p w)) (t : Bool) (told : t ≡ (bits w (p - 1) && bits w (buddy p - 1))) where
-    pub meets : t ≡ true → false ≡ a
-    unfolding allb
-    meets e =
-        let both = sym told ∙ e in
-        let mine = and_l (bits w (p - 1)) (bits w (buddy p - 1)) both in
-        let its = and_r (bits w (p - 1)) (bits w (buddy p - 1)) both in
-        sym (inv ∙ rw (next, mine, its_bit, its))
-
-    pub passes : t ≡ false → a ≡ allb apart (set_of (p - 1) w)
-    unfolding allb
-    passes e = inv ∙ either (bits w (p - 1))
-        (λ f. let its = rw f at (sym told ∙ e) in rw (next, f, its_bit, its))
-        (λ f. rw (next, f))
+pub survives_alone : (b : List ℕ) → job_in_range b ≡ true → (w : ℕ) → survives (job_of b) (set_of (machines_of b) w) ≡ each (alone b w) (machines_of b) 1
+unfolding survives
+survives_alone b good w = all_asked w (λ q. not (stands (set_of (machines_of b) w) ((job_of b).buddy q))) (alone b w) (machines_of b)
+    (λ p l h. rw (stands_bit (machines_of b) w ((job_of b).buddy p) (buddy_low b good p l h) (buddy_high b good p l h))
+    (either (bits w (p - 1)) (λ e. rw e) (λ e. rw e)))

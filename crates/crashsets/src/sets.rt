@@ -1,4 +1,5 @@
-// Sets of machines that crash at once, each a word: machine p stands in it if bit p - 1 is set.
+// Sets of machines that crash at once, each a word: machine p stands in it if bit p - 1 is set. The functions ask that the job line is in
+// range: it is asked of the line once, where the report is written, and a struct for it would hold the line alone.
 ghost use Rattle.std.specs.Prelude.{◌≡◌, true, ◌&&◌, ◌-◌, ◌≤◌};
 ghost use Rattle.protocol.specs.Job.{machines_of, job_in_range, job_of};
 ghost use Rattle.frames.specs.Decode.{decoded};
@@ -25,10 +26,7 @@ fn together(line: &[u8], set: u64, p: u8) -> bool
     requires le_p { (1 ≤ p) × (p ≤ machines_of (decoded line.now)) }
     ensures { result ≡ (bits set (p - 1) && bits set ((job_of (decoded line.now)).buddy p - 1)) }
 {
-    if !stands(set, p) {
-        return false;
-    }
-    stands(set, jobline::buddy_of(line, p))
+    stands(set, p) && stands(set, jobline::buddy_of(line, p))
 }
 
 // No machine of the set stands together with its buddy.
@@ -36,12 +34,10 @@ fn survives(line: &[u8], set: u64) -> bool
     requires { job_in_range (decoded line.now) ≡ true }
     ensures { result ≡ survives (job_of (decoded line.now)) (set_of (machines_of (decoded line.now)) set) }
 {
-    let mut p = frames::byte(line, 1);
-    while 0 < p {
+    for p in 1..=frames::byte(line, 1) {
         if together(line, set, p) {
             return false;
         }
-        p -= 1;
     }
     true
 }
@@ -52,15 +48,10 @@ pub fn count(line: &[u8], f: u8) -> Counts
     ensures all { result.total ≡ total (job_of (decoded line.now)) f }
     ensures good { result.survived ≡ survived (job_of (decoded line.now)) f }
 {
-    let m = frames::byte(line, 1);
-    let end: u64 = 1 << m;
-    let mut word: u64 = 0;
     let mut total = 0;
     let mut survived = 0;
-    while word < end {
-        let set = word;
-        word += 1;
-        if u64::count_ones(set) == f as u32 {
+    for set in 0..1u64 << frames::byte(line, 1) {
+        if set.count_ones() == f as u32 {
             total += 1;
             if survives(line, set) {
                 survived += 1;

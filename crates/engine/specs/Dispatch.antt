@@ -1,5 +1,5 @@
 -- The frame that the reader answers decides the step: what its crate gives, and then what settles.
-use Rattle.std.specs.Prelude.{◌≡◌, refl, Bool, true, false, ℕ}
+use Rattle.std.specs.Prelude.{None, Some, ◌≡◌, refl, Bool, true, false, ℕ}
 use Rattle.std.proofs.Common.{sym, ap, ◌∙◌}
 use Rattle.std.proofs.Math.Option.{Option, some, none}
 use Rattle.lists.specs.Questions.{put_all}
@@ -9,7 +9,7 @@ use Rattle.protocol.specs.Questions.{questions, job_questions, inject_questions,
 use Rattle.protocol.specs.Questions.{checkpoint_questions, crash_questions, restart_questions, show_questions, withdraw_questions}
 use Rattle.protocol.specs.{Step.{Outcome, accept, crash_outcome, deliver_outcome, work_outcome, outcome, judged, play, step_frame, step}}
 use Rattle.frames.specs.{Decode.decoded, Read.{read_as, meaning}, ReadLaws.frame_meaning, declared.Frame.Frame}
-use Rattle.frames.specs.{declared.Frame.TheVariants.{Garbled, Job, Inject, Deliver, Work, Checkpoint, Crash, Restart, Show, Withdraw}}
+use Rattle.frames.specs.{declared.Frame.TheVariants.{Job, Inject, Deliver, Work, Checkpoint, Crash, Restart, Show, Withdraw}}
 use Rattle.store.specs.View.{done, tried}
 use Rattle.settle.specs.Shown.{shown}
 use Rattle.deliver.specs.Frame.{delivered}
@@ -19,7 +19,6 @@ use Rattle.engine.specs.Play.{settles, settle_after, judged_settles}
 
 -- a frame, before machines settle
 unfoldable pub acted : State → Line → Frame → Outcome
-acted s l Garbled = record { state = s; answer = Refused 1 }
 acted s l Job = tried s (job_questions s (decoded l)) (begin (decoded l))
 acted s l (Inject c v h) = tried s (inject_questions s c v h) (send s 0 c v h)
 acted s l (Deliver k a r n) = judged s (put_all (deliver_questions s k a r n) (delivered s k a r n (on_wire s k a r n)))
@@ -42,9 +41,8 @@ module _ (s : State) where
   crash_settles p false = refl
 
   -- the definitions' step is the frame's act, and then what settles
-  acted_settles : (l : Line) (f : Frame) → step_frame s (meaning l f) ≡ settle_after (acted s l f)
+  acted_settles : (l : Line) (f : Frame) → step_frame s (meaning l (Some f)) ≡ settle_after (acted s l f)
   unfolding step_frame meaning play outcome deliver_outcome work_outcome questions accept acted tried delivered worked_state shown settle_after settles
-  acted_settles l Garbled = refl
   acted_settles l Job = judged_settles s _ _ _ refl
   acted_settles l (Inject c v h) = judged_settles s _ _ _ refl
   acted_settles l (Deliver k a r n) = judged_settles s _ _ _ (either_settles (deliver_outcome s k a r n) (delivered s k a r n) refl (λ p. refl) (on_wire s k a r n))
@@ -55,6 +53,11 @@ module _ (s : State) where
   acted_settles l (Show c) = judged_settles s _ _ _ refl
   acted_settles l (Withdraw c) = judged_settles s _ _ _ refl
 
-  pub steps : (l : Line) (f : Frame) → f ≡ read_as (frame l) → step s l ≡ settle_after (acted s l f)
+  -- no frame
+  pub garbled : (l : Line) → None ≡ read_as (frame l) → step s l ≡ record { state = s; answer = Refused 1 }
+  unfolding step step_frame meaning
+  garbled l e = ap (step_frame s) (frame_meaning l ∙ ap (meaning l) (sym e))
+
+  pub steps : (l : Line) (f : Frame) → Some f ≡ read_as (frame l) → step s l ≡ settle_after (acted s l f)
   unfolding step
   steps l f e = ap (step_frame s) (frame_meaning l ∙ ap (meaning l) (sym e)) ∙ acted_settles l f

@@ -1,13 +1,17 @@
 -- A frame acted in place, then settled: the definitions' step.
-use Rattle.std.specs.Prelude.{◌≡◌, true, false, List, ℕ}
+use Rattle.std.specs.Prelude.{None, Some, ◌≡◌, true, false, List, ℕ}
 use Rattle.std.proofs.Common.{sym, ap, ◌∙◌}
 use Rattle.lists.specs.Tests.{true_not_false}
-use Rattle.protocol.specs.{declared.Answer.Answer, Restart.settle, Frames.{Line, frame}, Step.step}
+use Rattle.protocol.specs.{declared.Answer.Answer, declared.Answer.TheVariants.{Refused}, Restart.settle, Frames.{Line, frame}, Step.step}
 use Rattle.frames.specs.{Read.read_as, declared.Frame.Frame}
-use Rattle.store.specs.View.{view, outcome, Framed}
-use Rattle.engine.specs.{Play.{settles, settle_after}, Dispatch.{acted, steps}}
+use Rattle.store.specs.{View.{view, outcome, Framed}, Framing.refuses}
+use Rattle.engine.specs.{Play.{settles, settle_after}, Dispatch.{acted, garbled, steps}}
 
-module _ (xs ys : List ℕ) (l : Line) (f : Frame) (a : Answer) (read : f ≡ read_as (frame l)) (acts : Framed xs ys a (acted (view xs) l f)) where
+-- no frame: every word stays
+pub unread : (xs : List ℕ) (l : Line) → None ≡ read_as (frame l) → Framed xs xs (Refused 1) (step (view xs) l)
+unread xs l e = refuses xs 1 (garbled (view xs) l e)
+
+module _ (xs ys : List ℕ) (l : Line) (f : Frame) (a : Answer) (read : Some f ≡ read_as (frame l)) (acts : Framed xs ys a (acted (view xs) l f)) where
   settled : settle_after (outcome ys a) ≡ step (view xs) l
   settled = ap settle_after acts.gives ∙ sym (steps (view xs) l f read)
 

@@ -2,10 +2,8 @@
 pub mod Range
 pub mod Decode
 pub mod DecodeLaws
-pub mod Codes
-pub mod CodeLaws
 pub mod Read
-pub mod KindLaws
+pub mod PairLaws
 pub mod TableLaws
 pub mod ReadLaws
 pub mod LongLine

@@ -5,7 +5,7 @@ use Rattle.std.proofs.Math.Option.{none}
 use Rattle.lists.specs.{Lists.allb, Tests.{either, lt?, and_l, and_r}}
 use Rattle.protocol.specs.{declared.Answer.TheVariants.Refused, Parts.State}
 use Rattle.protocol.specs.{Frames.{Line, least, least_length, exact_length, is_whole, frame_of, frame}, Step.{step, step_frame}}
-use Rattle.frames.specs.{Decode.{decoded, is_hexadecimal}, DecodeLaws.{length_decoded, bytes_decoded}, CodeLaws.coded_at}
+use Rattle.frames.specs.{Decode.{decoded, is_hexadecimal}, DecodeLaws.{length_decoded, bytes_decoded, byte_small}}
 
 none_above : (m : ℕ) (l : List ℕ) → allb (λ x. leb x m) l ≡ true → (k : ℕ) → get_or l k 0 ≤ m
 unfolding allb
@@ -19,7 +19,7 @@ module _ (l : Line) where
   unfolding exact_length least_length least allb
   exact_small =
       either (eqb (get_or (decoded l) 0 0) 1)
-      (λ e. rw e (omega (arith, coded_at l 1, coded_at l 2)))
+      (λ e. rw e (omega (arith, byte_small l 1, byte_small l 2)))
       (λ e. rw e (omega (arith, none_above 6 least refl (get_or (decoded l) 0 0))))
 
   exact : is_whole (decoded l) ≡ true → length (decoded l) ≡ exact_length (decoded l)

@@ -1,13 +1,13 @@
 -- From the digits of a line to its frame.
-use Rattle.std.specs.Prelude.{Bool, true, false, cond, not, ◌&&◌, [], ◌∷◌, ◌≡◌, refl, ℕ, ◌+◌, ◌*◌, ◌<◌, ◌≤◌, ◌/◌, ◌%◌, eqb, leb, length, get_or, drop}
-use Rattle.std.proofs.Common.{⊎_elim, inl, inr, ◌∙◌, arith, le-leb, eq-eqb, ne_eqb, eqb-true}
+use Rattle.std.specs.Prelude.{None, Bool, true, false, cond, not, ◌&&◌, [], ◌∷◌, ◌≡◌, refl, ℕ, ◌+◌, ◌*◌, ◌<◌, ◌≤◌, ◌/◌, ◌%◌, eqb, leb, length, get_or, drop}
+use Rattle.std.proofs.Common.{⊎_elim, sym, ◌∙◌, arith, le-leb, eq-eqb, ne_eqb, eqb-true}
 use Rattle.std.proofs.Math.Bool.{and-true, and-false}
 use Rattle.std.proofs.Math.ListN.{get_or-eq_default as List·getD-eq-default}
 use Rattle.std.proofs.Math.Option.{Option, none}
 use Rattle.lists.specs.Tests.{either, eq?}
 use Rattle.protocol.specs.Frames.{Line, bytes, least, least_length, exact_length, is_whole, parts, frame, frame_of}
-use Rattle.frames.specs.{Decode.{decoded, is_hexadecimal}, DecodeLaws.{length_decoded, bytes_decoded}, Codes.codes, CodeLaws.coded_at, KindLaws.kind_judged}
-use Rattle.frames.specs.{Read.{read_as, meaning, job_as, behind_kind, Sized}, declared.Frame.TheVariants.Garbled}
+use Rattle.frames.specs.{Decode.{decoded, is_hexadecimal, is_pair}, DecodeLaws.{length_decoded, bytes_decoded}, PairLaws.{no_kind, a_kind}}
+use Rattle.frames.specs.{Read.{read_as, meaning, job_as, behind_kind, Sized}}
 use Rattle.protocol.specs.Frames
 
 -- ---- the frame of any line
@@ -21,23 +21,24 @@ frame_cond : (l : Line) → frame l ≡ cond (is_hexadecimal l && is_whole (deco
 unfolding frame frame_of
 frame_cond l = either (is_hexadecimal l) (λ e. rw (bytes_decoded l, e)) (λ e. rw (bytes_decoded l, e))
 
-pub frame_short : (l : Line) → length l < 2 → Garbled ≡ read_as (frame l)
+pub frame_short : (l : Line) → length l < 2 → None ≡ read_as (frame l)
 unfolding frame frame_of bytes is_whole least_length least read_as
 frame_short [] h = refl
 frame_short (x ∷ []) h = refl
 frame_short (x ∷ y ∷ l) h = absurd (omega arith)
 
--- ---- a line with a kind: k is its code, and m its entry in the table of least lengths
-module _ (l : Line) (k : ℕ) (h : 2 ≤ length l) (is-kind : k ≡ get_or (codes l) 0 0) where
-  kind_byte : k ≤ 255 → get_or (decoded l) 0 0 ≡ k
-  kind_byte s = omega (arith, (coded_at l 0).0)
+pub frame_no_kind : (l : Line) → 2 ≤ length l → is_pair l 0 ≡ false → None ≡ read_as (frame l)
+unfolding read_as
+frame_no_kind l h e = rw (frame_cond l, no_kind l h e)
 
-  pub frame_unknown : 23 < k → Garbled ≡ read_as (frame l)
+-- ---- a line with a kind: k is its number, and m its entry in the table of least lengths
+module _ (l : Line) (k : ℕ) (h : 2 ≤ length l) (digits : is_pair l 0 ≡ true) (is-kind : k ≡ get_or (decoded l) 0 0) where
+  kind_byte : get_or (decoded l) 0 0 ≡ k
+  kind_byte = sym is-kind
+
+  pub frame_unknown : 23 < k → None ≡ read_as (frame l)
   unfolding read_as is_whole least_length least
-  frame_unknown u = elim (kind_judged l h k is-kind) [
-    | inl p ↦ rw (frame_cond l, kind_byte p.0, List·getD-eq-default least 0 {n = k} u, and-false (is_hexadecimal l))
-    | inr p ↦ rw (frame_cond l, p.1)
-  ]
+  frame_unknown u = rw (frame_cond l, kind_byte, List·getD-eq-default least 0 {n = k} u, and-false (is_hexadecimal l))
 
   module _ (known : k ≤ 23) (m : ℕ) (is-least : m ≡ least_length k) where
     pub frame_job : k ≡ 1 → job_as l m ≡ read_as (frame l)
@@ -45,15 +46,15 @@ module _ (l : Line) (k : ℕ) (h : 2 ≤ length l) (is-kind : k ≡ get_or (code
     frame_job e =
         let exact = 3 + get_or (decoded l) 1 0 + 3 * get_or (decoded l) 2 0 in
         let three : m ≡ 3 = is-least ∙ rw e in
-        rw (three, frame_cond l, kind_byte (omega arith) ∙ e, length_decoded l, exact_least 3 exact (length l / 2) (omega arith))
+        rw (three, frame_cond l, kind_byte ∙ e, length_decoded l, exact_least 3 exact (length l / 2) (omega arith))
         (either (is_hexadecimal l && eqb (length l / 2) exact) (λ t. rw t) (λ t. rw t))
 
     module _ (other : k ≡ 1 → ⊥) where
       whole_other : is_whole (decoded l) ≡ (not (eqb m 0) && leb m (length l / 2) && eqb (length l / 2) m)
       unfolding is_whole exact_length
-      whole_other = rw (kind_byte (omega arith), ne_eqb k 1 other, ← is-least, length_decoded l)
+      whole_other = rw (kind_byte, ne_eqb k 1 other, ← is-least, length_decoded l)
 
-      pub frame_length : (length l ≡ 2 * m → ⊥) → Garbled ≡ read_as (frame l)
+      pub frame_length : (length l ≡ 2 * m → ⊥) → None ≡ read_as (frame l)
       unfolding read_as is_hexadecimal
       frame_length n =
           ⊎_elim
@@ -70,10 +71,7 @@ module _ (l : Line) (k : ℕ) (h : 2 ≤ length l) (is-kind : k ≡ get_or (code
       let some : m ≡ 0 → ⊥ = λ e. omega arith in
       let half : length l / 2 ≡ m = omega arith in
       let whole : is_whole (decoded l) ≡ true = whole_other z.known m refl z.other ∙ rw (ne_eqb m 0 some, half, le-leb m m (omega arith), eq-eqb m m refl) in
-      elim (kind_judged l h k is-kind) [
-        | inl p ↦ rw (frame_cond l, whole, kind_byte (omega arith), p.1, and-true (is_hexadecimal (drop 2 l)))
-        | inr p ↦ absurd (omega arith)
-      ]
+      rw (frame_cond l, whole, kind_byte, a_kind l h digits, and-true (is_hexadecimal (drop 2 l)))
 
 -- ---- nothing is lost: the frame of a line, from what the code has of it
 module _ (l : Line) where

@@ -1,9 +1,8 @@
 -- What holds of every head, and what the branches of the code find.
-use Rattle.std.specs.Prelude.{not, List, ◌≡◌, refl, ℕ, ◌+◌, ◌<◌, ◌≤◌, min, eqb, length, get_or, set, take}
-use Rattle.std.proofs.Common.{sym, ◌∙◌, arith, add-one, eqb-true, take-suc, take-suc-set, take_all}
+use Rattle.std.specs.Prelude.{not, List, ◌≡◌, refl, ℕ, ◌≤◌, min, eqb, length, get_or}
+use Rattle.std.proofs.Common.{arith, eqb-true}
 use Rattle.std.proofs.Math.Path.{fun_ext}
 use Rattle.lists.specs.Tests.{either}
-use Rattle.arrays.specs.ArrayMap.{as_map, map_beyond}
 use Rattle.protocol.specs.Parts.{Job, is_down}
 use Rattle.words.specs.Part.{part, part_length}
 use Rattle.head.specs.{Head.{BUDDY, HOME, FIRST, SECOND, HEAD, cell, job_of, as_status}, Cells.cell_end}
@@ -39,20 +38,9 @@ module _ (h : List ℕ) where
   unfolding job_of
   home_beyond long c g = cell_end 6 (part HOME 13 h) c (rw (part_length HOME 13 h (omega arith)) g)
 
-pub word_end : (h : List ℕ) (a n k : ℕ) → a + n ≤ length h → n ≤ k → 0 ≡ as_map 0 (part a n h) k
-word_end h a n k fits g = sym (map_beyond 0 (part a n h) k (rw (part_length a n h fits) g))
-
 -- a machine's word says whether it is up
 pub not_down : (w : ℕ) → not (eqb w 1) ≡ not (is_down (as_status w))
 unfolding as_status is_down
 not_down w = either (eqb w 0)
     (λ e. rw (eqb-true w 0 e))
     (λ e. either (eqb w 1) (λ f. rw (e, f)) (λ f. rw (e, f)))
-
--- ---- the head copied word by word: i words are there
-module _ (h a : List ℕ) (i : ℕ) (long : HEAD ≤ length h) (size : length a ≡ HEAD) (inv : take i a ≡ take i h) where
-  pub copy_one : i < HEAD → take (i + 1) (set a i (get_or h i 0)) ≡ take (i + 1) h
-  copy_one g = rw (add-one i, take-suc-set a i (get_or h i 0) (omega arith), take-suc h i 0 (omega arith), inv)
-
-  pub copy_all : i ≡ HEAD → a ≡ part 0 HEAD h
-  copy_all e = sym (take_all HEAD a (omega arith)) ∙ rw e at inv

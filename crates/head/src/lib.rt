@@ -1,18 +1,20 @@
 // The head of the store: the job's numbers, the machines and the targets, one word each, read for a head of any contents.
-// Every function takes a head, or a store that begins with one.
+// Every function takes a head, or a store that begins with one, so each asks for the length: a crash lends the words before the wire, all
+// others the store, and an array type says one length alone. A struct around the slice would be made and unmade at each call.
 #![tactic(auto)]
 
-ghost use Rattle.std.specs.Prelude.{◌≡◌, not, [], ◌∷◌, ◌+◌, ◌≤◌, min, leb, length};
+ghost use Rattle.std.specs.Prelude.{◌≡◌, not, [], ◌∷◌, ◌+◌, ◌≤◌, leb, length};
 ghost use Rattle.lists.specs.Questions.{◌asks◌, first_no};
 ghost use Rattle.arrays.specs.ArrayMap.{as_map};
 ghost use Rattle.protocol.specs.Parts.{on};
 ghost use Rattle.protocol.specs.Sending.{is_local};
 ghost use Rattle.protocol.specs.Packets.{destination};
 ghost use Rattle.protocol.specs.Frames.{between};
+ghost use Rattle.protocol.specs.Numbers.{kind_number, refusal_of};
 ghost use Rattle.words.specs.Part.{part};
 ghost use Rattle.head.specs.Head.{HEAD, cell, job_of, lost_of, status_of, held_of, target_of, runs, chare_asked};
 
-use protocol::Status;
+use protocol::{Kind, Refusal, Status};
 
 // Where each part begins.
 pub const SET: usize = 0;
@@ -53,18 +55,12 @@ pub fn is_lost(h: &[u64]) -> bool
     h[LOST] == 1
 }
 
-fn at_most(w: u64, m: u64) -> u64
-    ensures { result ≡ min w m }
-{
-    if w < m { w } else { m }
-}
-
 pub fn machines(h: &[u64]) -> u8
     requires { HEAD ≤ length h.now }
     ensures is { result ≡ (job_of h.now).machines }
     ensures small { result ≤ 6 }
 {
-    at_most(h[MACHINES], 6) as u8
+    h[MACHINES].min(6) as u8
 }
 
 pub fn chares(h: &[u64]) -> u8
@@ -72,7 +68,7 @@ pub fn chares(h: &[u64]) -> u8
     ensures is { result ≡ (job_of h.now).chares }
     ensures small { result ≤ 12 }
 {
-    at_most(h[CHARES], 12) as u8
+    h[CHARES].min(12) as u8
 }
 
 // The word at k of the part of n words from a on; 0 past its end.
@@ -80,11 +76,7 @@ fn word(h: &[u64], a: usize, n: usize, k: u8) -> u64
     requires { a + n ≤ length h.now }
     ensures { result ≡ as_map 0 (part a n h.now) k }
 {
-    let i = k as usize;
-    if n <= i {
-        return 0;
-    }
-    h[a + i]
+    h[a..a + n].get(k as usize).copied().unwrap_or(0)
 }
 
 // The same as a number of a job: at most m, and 0 at 0.
@@ -96,9 +88,10 @@ fn cell(h: &[u64], a: usize, n: usize, m: u64, k: u8) -> u64
     if k == 0 {
         return 0;
     }
-    at_most(word(h, a, n, k), m)
+    word(h, a, n, k).min(m)
 }
 
+// The four below are `cell` at the places of a job's numbers: the names are those of the definitions' job.
 pub fn buddy(h: &[u64], p: u8) -> u8
     requires { HEAD ≤ length h.now }
     ensures is { result ≡ (job_of h.now).buddy p }
@@ -149,8 +142,7 @@ pub fn status(h: &[u64], p: u8) -> Status
     requires { HEAD ≤ length h.now }
     ensures { result ≡ status_of h.now p }
 {
-    let w = word(h, STATUS, 7, p);
-    match w {
+    match word(h, STATUS, 7, p) {
         0 => Status::Up,
         1 => Status::Down,
         _ => Status::CatchingUp,
@@ -162,10 +154,7 @@ pub fn is_up(h: &[u64], p: u8) -> bool
     requires { HEAD ≤ length h.now }
     ensures { result ≡ runs (status_of h.now) p }
 {
-    if p == 0 {
-        return true;
-    }
-    word(h, STATUS, 7, p) != 1
+    p == 0 || status(h, p) != Status::Down
 }
 
 // Chare `c` is on machine `p`.
@@ -181,90 +170,74 @@ pub fn is_local(h: &[u64], a: u8, b: u8) -> bool
     requires { HEAD ≤ length h.now }
     ensures { result ≡ is_local (job_of h.now) a b }
 {
-    if a == 0 {
-        return false;
-    }
-    home(h, a) == home(h, b)
+    a != 0 && home(h, a) == home(h, b)
 }
 
 // The machine that a packet of a kind goes to.
-pub fn destination(h: &[u64], kind: u8, sender: u8, receiver: u8) -> u8
+pub fn destination(h: &[u64], kind: Kind, sender: u8, receiver: u8) -> u8
     requires { HEAD ≤ length h.now }
-    ensures { result ≡ destination (job_of h.now) kind sender receiver }
+    ensures { result ≡ destination (job_of h.now) (kind_number kind) sender receiver }
 {
-    if kind == 2 {
-        return home(h, sender);
+    match kind {
+        Kind::Grant => home(h, sender),
+        Kind::Note => buddy(h, home(h, receiver)),
+        Kind::Ask | Kind::Data | Kind::Ack => home(h, receiver),
     }
-    let p = home(h, receiver);
-    if kind == 4 {
-        return buddy(h, p);
-    }
-    p
 }
 
 pub fn is_machine(h: &[u64], p: u8) -> bool
     requires { HEAD ≤ length h.now }
     ensures { result ≡ between 1 (job_of h.now).machines p }
 {
-    if p < 1 {
-        return false;
-    }
-    p <= machines(h)
+    (1..=machines(h)).contains(&p)
 }
 
 pub fn is_chare(h: &[u64], c: u8) -> bool
     requires { HEAD ≤ length h.now }
     ensures { result ≡ between 1 (job_of h.now).chares c }
 {
-    if c < 1 {
-        return false;
-    }
-    c <= chares(h)
+    (1..=chares(h)).contains(&c)
 }
 
 pub fn is_sender(h: &[u64], c: u8) -> bool
     requires { HEAD ≤ length h.now }
     ensures { result ≡ leb c (job_of h.now).chares }
 {
-    let last = chares(h);
-    c <= last
+    c <= chares(h)
 }
 
-// The questions 2 to 5: the first that is answered "no", or 0.
-pub fn first_no(set: bool, in_range: bool, lost: bool, up: bool) -> u8
-    ensures { result ≡ first_no (2 asks set ∷ 3 asks in_range ∷ 4 asks not lost ∷ 5 asks up ∷ []) }
+// The questions 2 to 5: the first that is answered "no".
+pub fn first_no(set: bool, in_range: bool, lost: bool, up: bool) -> Result<(), Refusal>
+    ensures { refusal_of result ≡ first_no (2 asks set ∷ 3 asks in_range ∷ 4 asks not lost ∷ 5 asks up ∷ []) }
 {
     if !set {
-        return 2;
+        Err(Refusal::Job)
+    } else if !in_range {
+        Err(Refusal::OutOfRange)
+    } else if lost {
+        Err(Refusal::LostRun)
+    } else if !up {
+        Err(Refusal::NotUp)
+    } else {
+        Ok(())
     }
-    if !in_range {
-        return 3;
-    }
-    if lost {
-        return 4;
-    }
-    if up { 0 } else { 5 }
 }
 
 // These questions of a frame on chare `c`.
-pub fn judge_chare(h: &[u64], c: u8) -> u8
+pub fn judge_chare(h: &[u64], c: u8) -> Result<(), Refusal>
     requires { HEAD ≤ length h.now }
-    ensures { result ≡ first_no (chare_asked (job_of h.now) (lost_of h.now) (status_of h.now) c) }
+    ensures { refusal_of result ≡ first_no (chare_asked (job_of h.now) (lost_of h.now) (status_of h.now) c) }
 {
     let p = home(h, c);
     first_no(is_set(h), is_chare(h, c), is_lost(h), is_up(h, p))
 }
 
-// The head alone.
+// The head alone, for a caller that changes the store meanwhile.
 pub fn copy(h: &[u64]) -> [u64; HEAD]
     requires { HEAD ≤ length h.now }
     ensures { result ≡ part 0 HEAD h.now }
 {
     let mut a = [0; HEAD];
-    let mut i = 0;
-    while i < HEAD {
-        a[i] = h[i];
-        i += 1;
-    }
+    a.copy_from_slice(&h[..HEAD]);
     a
 }

@@ -4,7 +4,7 @@ use Rattle.std.proofs.Common.{sym, ap, ◌∙◌}
 use Rattle.std.proofs.lemmas.List.{length-map}
 use Rattle.lists.specs.{Tests.either, Lists.{keep, keep_map, change1}}
 use Rattle.arrays.specs.Place.{place}
-use Rattle.words.specs.{Rows.row, Becomes.{Becomes, becomes_as, becomes_same, becomes_mapped}, Mapped.{change_at, change_no}, Sift.map_same}
+use Rattle.words.specs.{Rows.row, Becomes.{Becomes, becomes_same, becomes_mapped}, Mapped.{change_at, change_no}}
 use Rattle.item.specs.{declared.Item.Item, Item.{item_of, items}}
 
 -- as many items as a row has words, and as it has meanings of them
@@ -33,10 +33,10 @@ module _ {A : Type 0} (means : Item → A) where
   )
 
   -- those that pass, as they are
-  pub both_kept : (p : A → Bool) {before after : List ℕ} → Becomes items before after (map (λ x. x) (keep (λ x. p (means x)) (items before))) →
+  pub both_kept : (p : A → Bool) {before after : List ℕ} → Becomes items before after (keep (λ x. p (means x)) (items before)) →
       Becomes (λ ws. map (λ w. means (item_of w)) (row ws)) before after (keep p (map (λ w. means (item_of w)) (row before))) × (items after ≡ keep (λ x. p (means x)) (items before))
   unfolding items
-  both_kept p {before} b = both (becomes_as items b (map_same _)) (sym (keep_map means p (items before)) ∙ ap (keep p) (seen (row before)))
+  both_kept p {before} b = both b (sym (keep_map means p (items before)) ∙ ap (keep p) (seen (row before)))
 
   -- g changes what an item means as change does the item
   module _ (p : A → Bool) (g : A → A) (change : Item → Item) (same : (w : ℕ) → means (change (item_of w)) ≡ g (means (item_of w))) where

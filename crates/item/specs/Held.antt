@@ -1,11 +1,9 @@
 -- What a row of words holds, one thing a word: f says what a word means.
-use Rattle.std.specs.Prelude.{◌≡◌, Bool, false, List, [], ◌∷◌, map, ℕ, ◌+◌, ◌-◌, ◌≤◌, ◌<◌, length, get_or, drop}
-use Rattle.std.proofs.Common.{◌∙◌, arith, add-one, drop_of_length-le, drop-cons}
-use Rattle.std.proofs.Math.ListN.{get_or-map as List·getD-map}
+use Rattle.std.specs.Prelude.{◌≡◌, Bool, false, List, [], ◌∷◌, map, ℕ, ◌-◌, ◌≤◌, length, drop}
+use Rattle.std.proofs.Common.{◌∙◌, arith, drop_of_length-le}
 use Rattle.std.proofs.lemmas.List.{length-map}
-use Rattle.lists.specs.Lists.{anyb}
 use Rattle.arrays.specs.{Front.push, Place.place}
-use Rattle.words.specs.{Rows.{row, row_length, row_at}, Becomes.{Becomes, becomes_mapped}, Mapped.map_push}
+use Rattle.words.specs.{Rows.{row, row_length}, Becomes.{Becomes, becomes_mapped}, Mapped.map_push}
 
 module _ {A : Type 0} (f : ℕ → A) (ws : List ℕ) where
   pub held_fit : length (map f (row ws)) ≤ length ws - 1
@@ -14,17 +12,9 @@ module _ {A : Type 0} (f : ℕ → A) (ws : List ℕ) where
   pub held_push : (out : List ℕ) (y : A) (x : ℕ) → Becomes row ws out (push (length ws - 1) (row ws) x) → f x ≡ y → Becomes (λ w. map f (row w)) ws out (push (length ws - 1) (map f (row ws)) y)
   held_push out y x a b = becomes_mapped f a (map_push f _ (row ws) x ∙ rw b)
 
-  -- a loop has passed i of them
-  module _ (i : ℕ) where
-    pub held_next : i < length (row ws) → drop i (map f (row ws)) ≡ f (get_or ws (i + 1) 0) ∷ drop (i + 1) (map f (row ws))
-    held_next h = drop-cons (map f (row ws)) i (f 0) (rw length-map h) ∙ rw (List·getD-map f (row ws) i 0, row_at ws i h, add-one i)
-
-    pub held_miss : (p : A → Bool) → i < length (row ws) → p (f (get_or ws (i + 1) 0)) ≡ false → anyb p (drop i (map f (row ws))) ≡ anyb p (drop (i + 1) (map f (row ws)))
-    unfolding anyb
-    held_miss p h e = rw (held_next h, e)
-
-    pub held_end : length (row ws) ≤ i → drop i (map f (row ws)) ≡ []
-    held_end h = drop_of_length-le (map f (row ws)) {i = i} (rw length-map h)
+  -- past the last
+  pub held_end : (i : ℕ) → length (row ws) ≤ i → drop i (map f (row ws)) ≡ []
+  held_end i h = drop_of_length-le (map f (row ws)) {i = i} (rw length-map h)
 
 -- no word means what passes
 pub held_never : {A : Type 0} (f : ℕ → A) (q : A → Bool) → ((w : ℕ) → q (f w) ≡ false) → (l : List ℕ) → length (map f l) ≤ place q (map f l)

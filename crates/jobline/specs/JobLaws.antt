@@ -7,7 +7,7 @@ use Rattle.protocol.specs.Job.{machines_of, chares_of, buddy_byte, chare_byte, b
 use Rattle.protocol.specs.{Frames.between, Parts.every_machine}
 use Rattle.protocol.proofs.{Recovery.Frames.Job.{machine_known, chare_known}}
 use Rattle.frames.specs.Range.{Between, between_true}
-use Rattle.jobline.specs.Passes.{number_of}
+use Rattle.jobline.specs.Numbers.{number_of}
 
 pub record InRange (b : List ℕ) : Type 0 where
   pub machines : Between 2 6 (machines_of b)

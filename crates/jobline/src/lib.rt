@@ -4,7 +4,15 @@
 ghost use Rattle.std.specs.Prelude.{◌≡◌};
 ghost use Rattle.protocol.specs.Job.{buddy_byte, chare_byte, buddy_in_range, chare_in_range, job_in_range, job_of};
 ghost use Rattle.frames.specs.Decode.{decoded};
-ghost use Rattle.jobline.specs.Passes.{buddies_in_range, chares_in_range, buddy_passes, chare_passes, number_of};
+ghost use Rattle.jobline.specs.Numbers.{number_of, place_of};
+
+// The three numbers that a line has of a chare, in their order: its machine and its two ports.
+#[derive(Clone, Copy)]
+pub enum Number {
+    Home,
+    First,
+    Second,
+}
 
 fn buddy_byte(line: &[u8], p: u8) -> u8
     ensures { result ≡ buddy_byte (decoded line.now) p }
@@ -12,131 +20,64 @@ fn buddy_byte(line: &[u8], p: u8) -> u8
     frames::byte(line, 2 + p as usize)
 }
 
-// The i-th of the three numbers of chare `c`.
-fn chare_byte(line: &[u8], c: u8, i: u8) -> u8
-    ensures { result ≡ chare_byte (decoded line.now) c i }
+fn chare_byte(line: &[u8], which: Number, c: u8) -> u8
+    ensures { result ≡ chare_byte (decoded line.now) c (place_of which) }
 {
-    let m = frames::byte(line, 1) as usize;
-    frames::byte(line, m + 3 * (c as usize) + (i as usize))
+    let machines = frames::byte(line, 1) as usize;
+    frames::byte(line, machines + 3 * c as usize + which as usize)
 }
 
 fn buddy_in_range(line: &[u8], p: u8) -> bool
     ensures { result ≡ buddy_in_range (decoded line.now) p }
 {
-    let x = buddy_byte(line, p);
-    if frames::byte(line, 1) < x {
-        return false;
-    }
-    x != p
+    let buddy = buddy_byte(line, p);
+    buddy <= frames::byte(line, 1) && buddy != p
 }
 
 fn chare_in_range(line: &[u8], c: u8) -> bool
     ensures { result ≡ chare_in_range (decoded line.now) c }
 {
-    let h = chare_byte(line, c, 0);
-    if h < 1 {
-        return false;
-    }
-    if frames::byte(line, 1) < h {
-        return false;
-    }
-    let n = frames::byte(line, 2);
-    if n < chare_byte(line, c, 1) {
-        return false;
-    }
-    chare_byte(line, c, 2) <= n
-}
-
-// In range, or past the job's machines.
-fn buddy_passes(line: &[u8], p: u8) -> bool
-    ensures { result ≡ buddy_passes (decoded line.now) p }
-{
-    if frames::byte(line, 1) < p {
-        return true;
-    }
-    buddy_in_range(line, p)
-}
-
-fn chare_passes(line: &[u8], c: u8) -> bool
-    ensures { result ≡ chare_passes (decoded line.now) c }
-{
-    if frames::byte(line, 2) < c {
-        return true;
-    }
-    chare_in_range(line, c)
-}
-
-fn buddies_in_range(line: &[u8]) -> bool
-    ensures { result ≡ buddies_in_range (decoded line.now) }
-{
-    for p in 1..=6 {
-        if !buddy_passes(line, p) {
-            return false;
-        }
-    }
-    true
-}
-
-fn chares_in_range(line: &[u8]) -> bool
-    ensures { result ≡ chares_in_range (decoded line.now) }
-{
-    for c in 1..=12 {
-        if !chare_passes(line, c) {
-            return false;
-        }
-    }
-    true
+    let machines = frames::byte(line, 1);
+    let chares = frames::byte(line, 2);
+    (1..=machines).contains(&chare_byte(line, Number::Home, c))
+        && chare_byte(line, Number::First, c) <= chares
+        && chare_byte(line, Number::Second, c) <= chares
 }
 
 // Every number of a job line is in range, and no machine is its own buddy.
 pub fn job_in_range(line: &[u8]) -> bool
     ensures { result ≡ job_in_range (decoded line.now) }
 {
-    let m = frames::byte(line, 1);
-    if m < 2 {
-        return false;
-    }
-    if 6 < m {
-        return false;
-    }
-    let c = frames::byte(line, 2);
-    if c < 1 {
-        return false;
-    }
-    if 12 < c {
-        return false;
-    }
-    if !buddies_in_range(line) {
-        return false;
-    }
-    chares_in_range(line)
+    let machines = frames::byte(line, 1);
+    let chares = frames::byte(line, 2);
+    (2..=6).contains(&machines)
+        && (1..=12).contains(&chares)
+        && (1..=machines).all(|p| buddy_in_range(line, p))
+        && (1..=chares).all(|c| chare_in_range(line, c))
 }
 
+// The buddy of machine `p`, 0 where the job has no such machine; a buddy of 0 is the previous machine.
 pub fn buddy_of(line: &[u8], p: u8) -> u8
     ensures { result ≡ (job_of (decoded line.now)).buddy p }
 {
-    let m = frames::byte(line, 1);
-    if p < 1 {
+    let machines = frames::byte(line, 1);
+    if !(1..=machines).contains(&p) {
         return 0;
     }
-    if m < p {
-        return 0;
+    match buddy_byte(line, p) {
+        0 if p == 1 => machines,
+        0 => p - 1,
+        buddy => buddy,
     }
-    let x = buddy_byte(line, p);
-    if x != 0 {
-        return x;
-    }
-    if p == 1 { m } else { p - 1 }
 }
 
-pub fn number_of(line: &[u8], i: u8, c: u8) -> u8
-    ensures { result ≡ number_of (decoded line.now) i c }
+// One of the three numbers of chare `c`, 0 where the job has no such chare.
+pub fn number_of(line: &[u8], which: Number, c: u8) -> u8
+    ensures { result ≡ number_of (decoded line.now) (place_of which) c }
 {
-    if c < 1 {
-        return 0;
+    if (1..=frames::byte(line, 2)).contains(&c) {
+        chare_byte(line, which, c)
+    } else {
+        0
     }
-    if frames::byte(line, 2) < c {
-        return 0;
-    }
-    chare_byte(line, c, i)
 }

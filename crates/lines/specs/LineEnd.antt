@@ -1,6 +1,7 @@
 -- Where the first line of an input ends.
-use Rattle.std.specs.Prelude.{◌≡◌, refl, List, [], ◌∷◌, ℕ, zero, suc, ◌+◌, ◌≤◌, ◌<◌, eqb, length, take, drop, get_or}
-use Rattle.std.proofs.Common.{ap, add-one, arith, eq-eqb, ne_eqb, drop_of_length-le, drop-cons}
+use Rattle.std.specs.Prelude.{◌≡◌, refl, List, [], ◌∷◌, ℕ, zero, suc, ◌≤◌, eqb, length, take}
+use Rattle.std.proofs.Common.{ap, arith}
+use Rattle.std.specs.List.{position_or_len}
 use Rattle.lists.specs.Tests.{either}
 use Rattle.arrays.specs.Place.{place, place_le}
 use Rattle.protocol.specs.{Frames.Line, Lines.{newline, extend, lines}}
@@ -17,19 +18,11 @@ line_end_le i = place_le (λ b. eqb b newline) i
 abbrev pub line_part : List ℕ → List ℕ
 line_part i = take (line_end i) i
 
--- ---- the loop that looks for it: k bytes are none
-module _ (i : List ℕ) (k : ℕ) (inv : line_end i ≡ k + line_end (drop k i)) where
-  pub end_here : k < length i → get_or i k 0 ≡ newline → k ≡ line_end i
-  unfolding line_end place
-  end_here h e = let f = rw (drop-cons i k 0 h, eq-eqb _ newline e) at inv in omega arith
-
-  pub end_later : k < length i → (get_or i k 0 ≡ newline → ⊥) → line_end i ≡ k + 1 + line_end (drop (k + 1) i)
-  unfolding line_end place
-  end_later h n = let f = rw (drop-cons i k 0 h, ne_eqb _ newline n) at inv in rw add-one (omega arith)
-
-  pub end_nowhere : length i ≤ k → k ≡ line_end i
-  unfolding line_end place
-  end_nowhere h = let f = rw (drop_of_length-le i {i = k} h) at inv in omega arith
+-- the library's word for it
+pub line_end_position : (i : List ℕ) → position_or_len (λ b. eqb b newline) i ≡ line_end i
+unfolding line_end place
+line_end_position [] = refl
+line_end_position (b ∷ i) = either (eqb b newline) (λ e. rw e) (λ e. rw (e, line_end_position i) (omega arith))
 
 -- ---- an input that is not empty has a first line, and that is its part before the first newline
 pub first_line : (b : ℕ) (i : List ℕ) → (rest : List Line) × (lines (b ∷ i) ≡ line_part (b ∷ i) ∷ rest)

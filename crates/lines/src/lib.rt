@@ -2,7 +2,7 @@
 #![tactic(auto)]
 
 ghost use Rattle.std.specs.Prelude.{◌≡◌, ◌∷◌, ◌++◌, ◌+◌, ◌≤◌, ◌%◌, length, drop};
-ghost use Rattle.protocol.specs.Lines.{newline, printed_digit, letter, line};
+ghost use Rattle.protocol.specs.Lines.{newline, printed_digit, hexadecimal, letter, line};
 ghost use Rattle.lines.specs.LineEnd.{line_end};
 
 use protocol::{Answer, Rule};
@@ -11,14 +11,10 @@ use protocol::{Answer, Rule};
 pub fn line_end(input: &[u8]) -> usize
     ensures { result ≡ line_end input.now }
 {
-    let mut i = 0;
-    while i < input.len() {
-        if input[i] == 10 {
-            return i;
-        }
-        i += 1;
-    }
-    i
+    input
+        .iter()
+        .position(|b| *b == b'\n')
+        .unwrap_or(input.len())
 }
 
 // The last hexadecimal digit of a number.
@@ -26,7 +22,7 @@ fn digit(n: u32) -> u8
     ensures { result ≡ printed_digit (n % 16) }
 {
     let d = (n % 16) as u8;
-    if d < 10 { 48 + d } else { 55 + d }
+    if d < 10 { b'0' + d } else { b'A' + d - 10 }
 }
 
 // The letter of a rule.
@@ -34,64 +30,58 @@ fn letter(r: Rule) -> u8
     ensures { result ≡ letter r }
 {
     match r {
-        Rule::AskFound => 65,
-        Rule::AskWorked => 66,
-        Rule::AskNew => 67,
-        Rule::GrantDropped => 68,
-        Rule::GrantOld => 69,
-        Rule::GrantReceived => 70,
-        Rule::GrantNew => 71,
-        Rule::DataFilled => 72,
-        Rule::DataDropped => 73,
-        Rule::Other => 74,
+        Rule::AskFound => b'A',
+        Rule::AskWorked => b'B',
+        Rule::AskNew => b'C',
+        Rule::GrantDropped => b'D',
+        Rule::GrantOld => b'E',
+        Rule::GrantReceived => b'F',
+        Rule::GrantNew => b'G',
+        Rule::DataFilled => b'H',
+        Rule::DataDropped => b'I',
+        Rule::Other => b'J',
     }
 }
 
-// Writes the line to the front of a buffer; how many bytes it has.
+// The last hexadecimal digits of a number, as many as there is room for. The place and what is left of the number fall together.
+fn hexadecimal(out: &mut [u8], n: u32)
+    ensures { out.new ≡ hexadecimal (length out.old) n }
+{
+    let mut rest = n;
+    for i in (0..out.len()).rev() {
+        out[i] = digit(rest);
+        rest /= 16;
+    }
+}
+
+// Puts bytes to the front of a buffer; how many they are.
+fn put(out: &mut [u8], bytes: &[u8]) -> usize
+    requires { length bytes.now ≤ length out.old }
+    ensures count { result ≡ length bytes.now }
+    ensures bytes { out.new ≡ bytes.now ++ drop result out.old }
+{
+    out[..bytes.len()].copy_from_slice(bytes);
+    bytes.len()
+}
+
+// Writes the line to the front of a buffer; how many bytes it has. Not by `write!`, which says what it wrote of a `String` alone: there is no
+// heap here.
 pub fn print(out: &mut [u8], a: Answer) -> usize
     requires { 16 ≤ length out.old }
     ensures count { result ≡ length (line a) + 1 }
     ensures bytes { out.new ≡ line a ++ (newline ∷ drop result out.old) }
 {
     match a {
-        Answer::Accepted(r) => {
-            out[0] = 48;
-            out[1] = 48;
-            out[2] = letter(r);
-            out[3] = 10;
-            4
-        }
-        Answer::Lost => {
-            out[0] = 70;
-            out[1] = 70;
-            out[2] = 10;
-            3
-        }
-        Answer::Refused(n) => {
-            out[0] = 48 + n / 10 % 10;
-            out[1] = 48 + n % 10;
-            out[2] = 10;
-            3
-        }
+        Answer::Accepted(r) => put(out, &[b'0', b'0', letter(r), b'\n']),
+        Answer::Lost => put(out, b"FF\n"),
+        Answer::Refused(n) => put(out, &[b'0' + n / 10 % 10, b'0' + n % 10, b'\n']),
         Answer::Shown { height, state } => {
-            let h = height as u32;
-            out[0] = 48;
-            out[1] = 48;
-            out[2] = digit(h / 16 / 16 / 16);
-            out[3] = digit(h / 16 / 16);
-            out[4] = digit(h / 16);
-            out[5] = digit(h);
-            out[6] = digit(state / 16 / 16 / 16 / 16 / 16 / 16 / 16);
-            out[7] = digit(state / 16 / 16 / 16 / 16 / 16 / 16);
-            out[8] = digit(state / 16 / 16 / 16 / 16 / 16);
-            out[9] = digit(state / 16 / 16 / 16 / 16);
-            out[10] = digit(state / 16 / 16 / 16);
-            out[11] = digit(state / 16 / 16);
-            out[12] = digit(state / 16);
-            out[13] = digit(state);
-            out[14] = letter(Rule::Other);
-            out[15] = 10;
-            16
+            let mut shown = [b'0'; 16];
+            hexadecimal(&mut shown[2..6], height as u32);
+            hexadecimal(&mut shown[6..14], state);
+            shown[14] = letter(Rule::Other);
+            shown[15] = b'\n';
+            put(out, &shown)
         }
     }
 }

@@ -26,7 +26,7 @@ pub record Fits (m : Message) : Type 0 where
   pub value : m.value < 65536
   pub hops : m.hops < 8
 
-word_fits : (w : ℕ) → Fits (logged_of w).message
+pub word_fits : (w : ℕ) → Fits (logged_of w).message
 unfolding logged_of as_logged item_of
 word_fits w = record { sender = omega arith; receiver = omega arith; sn = omega arith; value = omega arith; hops = omega arith }
 
@@ -39,10 +39,6 @@ fitted_same x h = rw (mod-eq_of_lt h.sender, mod-eq_of_lt h.receiver, mod-eq_of_
 pub packed_tn : (t w : ℕ) → as_logged (packed (set_tn t (logged_of w))) ≡ set_tn t (logged_of w)
 unfolding set_tn as_logged packed fitted
 packed_tn t w = fitted_same (set_tn t (logged_of w)) (word_fits w)
-
-pub at_fits : (ws : List ℕ) (i : ℕ) → Fits (get_or (entries ws) i (logged_of 0)).message
-unfolding entries
-at_fits ws i = rw (List·getD-map logged_of (row ws) i 0) (word_fits (get_or (row ws) i 0))
 
 -- what a lookup without a TN gives is the message found
 is_found : (o : Option Logged) (m : Message) → Unticketed m ≡ looked_up o → (x : Logged) × (o ≡ some x) × (m ≡ x.message)

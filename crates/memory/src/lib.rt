@@ -1,4 +1,6 @@
-// A chare's memory: 101 words, lent and changed in place.
+// A chare's memory: 101 words, lent and changed in place. It comes as a slice of the store, and each function asks for its length: of a
+// function that lends a part of a slice as an array no proof is found, and to make an array at each call (`as_mut_array`, `unwrap`) is no
+// plainer.
 #![tactic(auto)]
 
 ghost use Rattle.std.specs.Prelude.{◌≡◌, ◌<◌, length};

@@ -12,6 +12,7 @@ use item::{Item, KIND};
 use protocol::Note;
 use words::{OWNER, PEER};
 
+// `Note` and `Item` are types of crates below, so no `From` can be written here: `pack` and `unpack` are both ways.
 fn pack(x: Note) -> u64
     ensures { item_of result ≡ packed x }
 {
@@ -27,7 +28,8 @@ fn pack(x: Note) -> u64
     })
 }
 
-fn unpack(w: u64) -> Note
+// The note that a word means.
+pub fn unpack(w: u64) -> Note
     ensures { result ≡ note_of w }
 {
     let x = item::unpack(w);
@@ -39,6 +41,7 @@ fn unpack(w: u64) -> Note
     }
 }
 
+// One call of `words`, as `push` and the like: the contract says it of what the words mean, and callers' laws speak of that.
 pub fn count(ws: &[u64]) -> usize
     ensures { result ≡ length (notes ws.now) }
 {
@@ -56,25 +59,13 @@ pub fn at(ws: &[u64], i: usize) -> Note
 pub fn has(ws: &[u64], x: Note) -> bool
     ensures { result ≡ has_note (notes ws.now) x }
 {
-    if 16 <= x.receiver {
-        return false;
-    }
-    if 16 <= x.sender {
+    if 16 <= x.receiver || 16 <= x.sender {
         return false;
     }
     let name = x.sn as u64 + PEER * (x.receiver as u64) + OWNER * (x.sender as u64);
-    let n = words::count(ws);
-    let mut i = 0;
-    while i < n {
-        let w = ws[i + 1];
-        i += 1;
-        if w % KIND == name {
-            if item::tn(w) == x.tn {
-                return true;
-            }
-        }
-    }
-    false
+    words::items(ws)
+        .iter()
+        .any(|&w| w % KIND == name && item::tn(w) == x.tn)
 }
 
 // One more at the end; a full list stays.

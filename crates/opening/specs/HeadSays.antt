@@ -6,11 +6,11 @@ use Rattle.lists.specs.Tests.{lt?}
 use Rattle.arrays.specs.ArrayMap.{as_map, map_beyond}
 use Rattle.protocol.specs.{declared.Status.TheVariants.Up, Frames.between, Job.{machines_of, chares_of, job_in_range, job_of, has_machine, has_chare}}
 use Rattle.frames.specs.Range.{between_high}
-use Rattle.jobline.specs.{Passes.number_of, JobLaws.in_range}
+use Rattle.jobline.specs.{Numbers.number_of, JobLaws.in_range}
 use Rattle.words.specs.{Fields.bit_set, Part.{part, part_length}, Zeros.zero_at}
 use Rattle.head.specs.{Cells.{Filled, cell_filled}, Head.{BUDDY, HELD, HOME, FIRST, SECOND, HEAD, cell, lost_of, as_status, status_of, held_of, target_of}, HeadLaws.job_is}
 use Rattle.head.specs.Kept.{Says}
-use Rattle.opening.specs.Words.{word_of, Written}
+use Rattle.opening.specs.Words.{Written}
 use Rattle.head.specs.Head as head
 
 module _ (b : List ℕ) (ok : job_in_range b ≡ true) (h : List ℕ) (w : Written b h) where
@@ -24,14 +24,14 @@ module _ (b : List ℕ) (ok : job_in_range b ≡ true) (h : List ℕ) (w : Writt
       cell_filled m 13 (part a 13 h) (number_of b i) (long a 13 g) filled refl (λ j k. rw (between_high 1 (chares_of b) j (omega arith)))
 
   buddies_are : (p : ℕ) → cell 6 (part BUDDY 7 h) p ≡ (job_of b).buddy p
-  unfolding job_of has_machine between word_of
+  unfolding job_of has_machine between
   buddies_are =
       let r = in_range b ok in
       let few = r.machines in
       cell_filled 6 7 (part BUDDY 7 h) (job_of b).buddy (long BUDDY 7 (omega arith)) w.buddies refl (λ j k. rw (between_high 1 (machines_of b) j (omega arith))) r.buddies
 
   the_job : head.job_of h ≡ job_of b
-  unfolding job_of machines_of chares_of number_of word_of
+  unfolding job_of machines_of chares_of number_of
   the_job =
       let r = in_range b ok in
       let rm = r.machines in
@@ -44,7 +44,7 @@ module _ (b : List ℕ) (ok : job_in_range b ≡ true) (h : List ℕ) (w : Writt
       (numbers_are SECOND 2 12 (omega arith) w.seconds (λ c. (r.numbers c).2))
 
   holds : (p : ℕ) → held_of h p ≡ has_machine b p
-  unfolding held_of as_map word_of Filled has_machine
+  unfolding held_of as_map Filled has_machine
   holds p =
       let few = (in_range b ok).machines in
       ⊎_elim

@@ -1,8 +1,9 @@
 // Frame 01 in place: a job's line becomes the store.
 #![tactic(auto)]
 
-ghost use Rattle.std.specs.Prelude.{◌≡◌, true, ◌+◌, ◌≤◌, ◌<◌, length};
+ghost use Rattle.std.specs.Prelude.{◌≡◌, true, ◌≤◌, ◌<◌, ℕ, length};
 ghost use Rattle.protocol.specs.Job.{has_machine, job_in_range, begin as begun};
+ghost use Rattle.protocol.specs.Numbers.{answered};
 ghost use Rattle.protocol.specs.Questions.{job_questions};
 ghost use Rattle.frames.specs.Decode.{decoded};
 ghost use Rattle.words.specs.Fields.{bit};
@@ -10,60 +11,32 @@ ghost use Rattle.head.specs.Head.{HEAD};
 ghost use Rattle.head.specs.Cells.{Filled};
 ghost use Rattle.memory.specs.Places.{MEMORY};
 ghost use Rattle.memory.specs.View.{memory_view};
-ghost use Rattle.store.specs.Places.{STORE};
 ghost use Rattle.store.specs.View.{view, tried, Framed};
-ghost use Rattle.opening.specs.Words.{word_of, Wrote, numbered, Written};
+ghost use Rattle.opening.specs.Words.{Gives, numbered, Written};
 ghost use Rattle.opening.specs.States.{with_state, started, all_started};
 
 use head::{BUDDY, CHARES, FIRST, HEAD, HELD, HOME, MACHINES, SECOND, SET};
+use jobline::Number;
 use memory::{MEMORY, STATE};
-use protocol::{Answer, Rule};
-use store::{COPY, LIVE};
+use protocol::{Refusal, Rule};
+use store::{COPY, LIVE, STORE};
 
 // 1 for a machine of the job: each starts with a copy.
-fn held_of(line: &[u8], p: u8) -> u64
+fn held_of(line: &[u8], p: u8) -> u8
     ensures { result ≡ bit (has_machine (decoded line.now) p) }
 {
-    if p < 1 {
-        return 0;
-    }
-    if frames::byte(line, 1) < p {
-        return 0;
-    }
-    1
+    u8::from((1..=frames::byte(line, 1)).contains(&p))
 }
 
-// The word at k of a part of the head: 0, 1 and 2 are a chare's machine and ports, 3 a machine's buddy, 4 its copy.
-fn word_of(line: &[u8], which: u8, k: u8) -> u64
-    ensures { result ≡ word_of (decoded line.now) which k }
+// Writes a part of the head: at k the number that is given for k.
+fn fill<F: Fn(u8) -> u8>(part: &mut [u64], number: F)
+    requires long { length part.old ≤ 13 }
+    requires callable { F.IsAlwaysCallable number }
+    ensures { (f : ℕ → ℕ) → Gives f (F.post number) → Filled f part.new (length part.old) }
 {
-    if which == 3 {
-        return jobline::buddy_of(line, k) as u64;
+    for (k, word) in part.iter_mut().enumerate() {
+        *word = number(k as u8) as u64;
     }
-    if which == 4 {
-        return held_of(line, k);
-    }
-    jobline::number_of(line, which, k) as u64
-}
-
-fn write_part(a: &mut [u64], line: &[u8], which: u8)
-    requires { length a.old ≤ 13 }
-    ensures { Filled (word_of (decoded line.now) which) a.new (length a.old) }
-{
-    let mut k = 0;
-    while k < a.len() {
-        a[k] = word_of(line, which, k as u8);
-        k += 1;
-    }
-}
-
-// The n words from a place on.
-fn write_at(h: &mut [u64], from: usize, n: usize, line: &[u8], which: u8)
-    requires { (length h.old ≡ HEAD) × (from + n ≤ HEAD) × (n ≤ 13) }
-    ensures { Wrote (word_of (decoded line.now) which) from n h.old h.new }
-{
-    let to = from + n;
-    write_part(&mut h[from..to], line, which);
 }
 
 fn write_numbers(h: &mut [u64], line: &[u8])
@@ -81,11 +54,20 @@ fn write_head(h: &mut [u64], line: &[u8])
     ensures { Written (decoded line.now) h.new }
 {
     write_numbers(h, line);
-    write_at(h, BUDDY, 7, line, 3);
-    write_at(h, HELD, 7, line, 4);
-    write_at(h, HOME, 13, line, 0);
-    write_at(h, FIRST, 13, line, 1);
-    write_at(h, SECOND, 13, line, 2);
+    fill(&mut h[BUDDY..BUDDY + 7], |p| jobline::buddy_of(line, p));
+    fill(&mut h[HELD..HELD + 7], |p| held_of(line, p));
+    fill(
+        &mut h[HOME..HOME + 13],
+        |c| jobline::number_of(line, Number::Home, c),
+    );
+    fill(
+        &mut h[FIRST..FIRST + 13],
+        |c| jobline::number_of(line, Number::First, c),
+    );
+    fill(
+        &mut h[SECOND..SECOND + 13],
+        |c| jobline::number_of(line, Number::Second, c),
+    );
 }
 
 fn write_state(m: &mut [u64], c: u8)
@@ -96,8 +78,8 @@ fn write_state(m: &mut [u64], c: u8)
 }
 
 // Chare c's state is its number, in its memory and in its copy.
-fn start_chare(s: &mut [u64], c: u8)
-    requires { (length s.old ≡ STORE) × (c < 13) }
+fn start_chare(s: &mut [u64; STORE], c: u8)
+    requires { c < 13 }
     ensures { view s.new ≡ started (view s.old) c }
 {
     let a = LIVE + (c as usize) * MEMORY;
@@ -108,20 +90,17 @@ fn start_chare(s: &mut [u64], c: u8)
     write_state(&mut s[b..f], c);
 }
 
-fn start_chares(s: &mut [u64], n: u8)
-    requires { (length s.old ≡ STORE) × (n ≤ 12) }
+fn start_chares(s: &mut [u64; STORE], n: u8)
+    requires { n ≤ 12 }
     ensures { view s.new ≡ all_started (view s.old) n }
 {
-    let mut c = 1;
-    while c <= n {
+    for c in 1..=n {
         start_chare(s, c);
-        c += 1;
     }
 }
 
-fn begin(s: &mut [u64], line: &[u8])
-    requires s_len { length s.old ≡ STORE }
-    requires line_value { job_in_range (decoded line.now) ≡ true }
+fn begin(s: &mut [u64; STORE], line: &[u8])
+    requires { job_in_range (decoded line.now) ≡ true }
     ensures { view s.new ≡ begun (decoded line.now) }
 {
     words::clear(s);
@@ -130,19 +109,18 @@ fn begin(s: &mut [u64], line: &[u8])
 }
 
 // Frame 01.
-pub fn job(s: &mut [u64], line: &[u8]) -> Answer
-    requires { length s.old ≡ STORE }
-    ensures { Framed s.old s.new result (tried (view s.old) (job_questions (view s.old) (decoded line.now)) (begun (decoded line.now))) }
+pub fn job(s: &mut [u64; STORE], line: &[u8]) -> Result<Rule, Refusal>
+    ensures { Framed s.old s.new (answered result) (tried (view s.old) (job_questions (view s.old) (decoded line.now)) (begun (decoded line.now))) }
 {
     if head::is_set(s) {
-        return Answer::Refused(2);
+        return Err(Refusal::Job);
     }
     if !jobline::job_in_range(line) {
-        return Answer::Refused(3);
+        return Err(Refusal::OutOfRange);
     }
     if head::is_lost(s) {
-        return Answer::Refused(4);
+        return Err(Refusal::LostRun);
     }
     begin(s, line);
-    Answer::Accepted(Rule::Other)
+    Ok(Rule::Other)
 }

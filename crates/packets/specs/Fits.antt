@@ -1,11 +1,10 @@
 -- What a wire can hold: its room, and the range of every field of a packet on it.
-use Rattle.std.specs.Prelude.{Bool, List, ◌≡◌, refl, ℕ, ◌-◌, ◌<◌, ◌≤◌, eqb, length}
+use Rattle.std.specs.Prelude.{Bool, List, ◌≡◌, refl, ℕ, ◌-◌, ◌<◌, ◌≤◌, eqb, length, Some}
 use Rattle.std.proofs.Common.{sym, arith, mod-eq_of_lt}
 use Rattle.protocol.specs.{declared.Content.Content, declared.Packet.Packet}
 use Rattle.words.specs.{Rows.row, Mapped.find_holds}
 use Rattle.item.specs.{Item.item_of, Held.held_fit}
-use Rattle.packets.specs.{Words.{granted, carried, pick, content_of, as_packet, unpacked, fit_content, fitted, packets}, View.{found, sought, sought_packet}}
-use Rattle.packets.specs.declared.Found.TheVariants.{At}
+use Rattle.packets.specs.{Words.{granted, carried, pick, content_of, as_packet, unpacked, fit_content, fitted, packets}, View.{found, sought, sought_packet}, declared.Found.Found}
 
 pub packets_fit : (ws : List ℕ) → length (packets ws) ≤ length ws - 1
 unfolding packets
@@ -35,6 +34,6 @@ word_fits : (w : ℕ) → Fits (unpacked w)
 unfolding unpacked as_packet content_of item_of
 word_fits w = record { sender = omega arith; receiver = omega arith; sn = omega arith; content = content_fits _ _ _ _ _ (omega arith) }
 
-pub sought_fits : (ws : List ℕ) (q : Packet → Bool) {i : ℕ} {p : Packet} → At i p ≡ sought q (packets ws) → Fits p
+pub sought_fits : (ws : List ℕ) (q : Packet → Bool) {f : Found} → Some f ≡ sought q (packets ws) → Fits f.packet
 unfolding found packets
 sought_fits ws q e = find_holds unpacked Fits word_fits q (row ws) (sym (sought_packet q (packets ws) e))

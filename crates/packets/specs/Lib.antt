@@ -3,5 +3,4 @@ pub mod Words
 pub mod View
 pub mod Packing
 pub mod Names
-pub mod Stays
 pub mod Fits

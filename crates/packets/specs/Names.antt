@@ -1,36 +1,41 @@
 -- The name of a word's packet: the kind that its kind field shows, and all that stands below it.
-use Rattle.std.specs.Prelude.{Bool, false, ◌&&◌, List, ◌≡◌, refl, ℕ, ◌+◌, ◌*◌, ◌/◌, ◌%◌, ◌<◌, ◌≤◌, eqb}
+use Rattle.std.specs.Prelude.{Bool, false, ◌&&◌, List, ◌≡◌, refl, ℕ, ◌+◌, ◌*◌, ◌/◌, ◌%◌, ◌<◌, ◌≤◌, eqb, None, Result, Ok, Err, ◌⊎◌}
 use Rattle.std.proofs.Common.{sym, arith, eqb-true, eq-eqb, ne_eqb}
 use Rattle.std.proofs.Math.Bool.{and-true}
 use Rattle.std.proofs.lemmas.Bool.{eqb-false}
 use Rattle.lists.specs.Tests.{either, and4}
 use Rattle.arrays.specs.Place.{not_found}
-use Rattle.protocol.specs.Packets.{kind, is_named}
+use Rattle.std.specs.Result.{result_unwrap_or}
+use Rattle.protocol.specs.{Packets.{kind, is_named}, Numbers.{kind_number, KindOf}, declared.Kind.Kind, declared.Kind.TheVariants.{Ask, Grant, Data, Note, Ack}, declared.Refusal.Refusal}
 use Rattle.words.specs.Rows.{PEER, OWNER, row}
 use Rattle.item.specs.{Item.{KIND, item_of, owner_small, peer_small}, Held.held_never}
-use Rattle.packets.specs.{Words.{granted, carried, pick, content_of, as_packet, unpacked, packets}, View.{found_at, sought}, declared.Found.TheVariants.Nothing}
+use Rattle.packets.specs.{Words.{granted, carried, pick, content_of, as_packet, unpacked, packets}, View.{found_at, sought}}
 
 -- ---- the kind
 grant_kind : (f t : ℕ) → kind (granted f t) ≡ 2
 unfolding kind granted
 grant_kind f t = pick (λ c. kind c ≡ 2) (eqb f 0) refl (pick (λ c. kind c ≡ 2) (eqb f 1) refl refl)
 
-module _ (w k : ℕ) (e : k ≡ w / KIND % 8) where
-  -- one that no packet has counts as ACK
-  pub kind_none : (1 ≤ k → k ≤ 5 → ⊥) → 5 ≡ kind (unpacked w).content
+module _ (w : ℕ) where
+  -- the kind of a word's packet
+  shown : (k : Kind) → kind_number k ≡ w / KIND % 8 → kind_number k ≡ kind (unpacked w).content
   unfolding unpacked as_packet content_of item_of kind carried
-  kind_none n =
-      let miss : (j : ℕ) → 1 ≤ j → j ≤ 4 → eqb k j ≡ false = λ j a b. ne_eqb k j (λ q. n (omega arith) (omega arith)) in
+  shown Ask e = rw (← e)
+  shown Grant e = rw (← e) (sym (grant_kind (item_of w).flags (item_of w).tn))
+  shown Data e = rw (← e)
+  shown Note e = rw (← e)
+  shown Ack e = rw (← e)
+
+  -- one that no packet has counts as ACK
+  unknown : (k : ℕ) → k ≡ w / KIND % 8 → (k < 1) ⊎ (5 < k) → 5 ≡ kind (unpacked w).content
+  unfolding unpacked as_packet content_of item_of kind carried
+  unknown k e n =
+      let miss : (j : ℕ) → 1 ≤ j → j ≤ 4 → eqb k j ≡ false = λ j a b. ne_eqb k j (λ q. omega arith) in
       rw (← e, miss 1 (omega arith) (omega arith), miss 2 (omega arith) (omega arith), miss 3 (omega arith) (omega arith), miss 4 (omega arith) (omega arith))
 
-  pub kind_shown : 1 ≤ k → k ≤ 5 → k ≡ kind (unpacked w).content
-  unfolding unpacked as_packet content_of item_of kind carried
-  kind_shown a b = rw (← e) (
-      either (eqb k 1) (λ q. rw (eqb-true k 1 q))
-      (λ e1. either (eqb k 2) (λ q. rw (eqb-true k 2 q) (sym (grant_kind (item_of w).flags (item_of w).tn)))
-      (λ e2. either (eqb k 3) (λ q. rw (eqb-true k 3 q))
-      (λ e3. either (eqb k 4) (λ q. rw (eqb-true k 4 q))
-      (λ e4. rw (e1, e2, e3, e4) (omega (arith, eqb-false)))))))
+  pub kind_shown : (r : Result Kind Refusal) → KindOf (w / KIND % 8) r → kind_number (result_unwrap_or r Ack) ≡ kind (unpacked w).content
+  kind_shown (Ok k) h = shown k h
+  kind_shown (Err e) h = unknown _ refl h.1
 
 -- ---- the name: sender, receiver and SN in one number, then the kind
 unfoldable pub has_name : ℕ → ℕ → ℕ → Bool
@@ -56,7 +61,7 @@ module _ (k s r n w : ℕ) where
       (λ e. rw e (differs (λ x y z. eqb-false (w % KIND) (n + PEER * r + OWNER * s) e (omega arith))))
 
 -- nobody has a number above 15
-pub nobody : (ws : List ℕ) (k s r n : ℕ) → (s < 16 → r < 16 → ⊥) → Nothing ≡ sought (is_named k s r n) (packets ws)
+pub nobody : (ws : List ℕ) (k s r n : ℕ) → (s < 16 → r < 16 → ⊥) → None ≡ sought (is_named k s r n) (packets ws)
 unfolding sought found_at packets
 nobody ws k s r n out =
     let far : (w : ℕ) → is_named k s r n (unpacked w) ≡ false = λ w. differs k s r n w (λ x y z. out (rw (← x) (owner_small w)) (rw (← y) (peer_small w))) in

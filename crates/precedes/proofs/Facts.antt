@@ -1,10 +1,10 @@
 -- What readers of the answers may expect of them: there is one right answer; what a chain joins stands in the row's order, so nothing
 -- precedes itself; which record is the first bad one.
-use Rattle.std.specs.Prelude.{◌≡◌, refl, false, List, ℕ, zero, suc, ◌+◌, ◌<◌, ◌≤◌, length, take, drop}
-use Rattle.std.proofs.Common.{sym, ap, ◌∙◌, inl, inr, arith}
+use Rattle.std.specs.Prelude.{◌≡◌, refl, false, List, [], ◌∷◌, ◌++◌, ℕ, zero, suc, ◌+◌, ◌<◌, ◌≤◌, length, take, drop}
+use Rattle.std.proofs.Common.{sym, ap, ◌∙◌, inl, inr, arith, le-ltb, length-append, length-take-le}
 use Rattle.lists.specs.Tests.{either, eq?, true_not_false}
 use Rattle.precedes.specs.{declared.Processing.Processing, declared.Answer.Answer, declared.Answer.TheVariants.{Bad, Unknown, Yes, No}}
-use Rattle.precedes.specs.Precedes.{Name, name, origin, good, first_bad, bad_place, Chain, on_chare, through_sender, through, Right}
+use Rattle.precedes.specs.Precedes.{Name, name, origin, has_room, good, first_bad, bad_place, Chain, on_chare, through_sender, through, Right}
 use Rattle.precedes.specs.{Rows.{rec, Is, Good, stands_at, good_tn, good_chare, is_low, once}}
 use Rattle.precedes.proofs.{Rows.{good_sender}, Chains.{named_in, end_stands, chain_forward}, Reading.{bad_start, bad_none, bad_next, bad_here, bad_past}}
 
@@ -24,6 +24,35 @@ past_512 row g l = first_is_told row 512 g l (bad_past row 512 l (omega arith))
 
 pub all_good : (row : List Processing) → Good row (length row) → bad_place row ≡ 0
 all_good row g = good_goes_on row (length row) g ∙ bad_none row
+
+-- ---- past 512 it does not matter what stands there: the right answer for the row with others in their place is right for the row
+bad_long : (e xs : List Processing) (p q : Processing) (ps qs : List Processing) → length e + length xs ≡ 512
+    → (0 < first_bad e (xs ++ (p ∷ ps))) × (first_bad e (xs ++ (p ∷ ps)) ≡ first_bad e (xs ++ (q ∷ qs)))
+unfolding first_bad good has_room
+bad_long e [] p q ps qs l = rw (le-ltb (length e) 512 (omega arith)) (omega arith, refl)
+bad_long e (x ∷ xs) p q ps qs l = either (good e x)
+    (λ g. rw g (bad_long (e ++ (x ∷ [])) xs p q ps qs (omega (arith, length-append e (x ∷ [])))))
+    (λ g. rw g (omega arith, refl))
+
+-- a list of more than n is n and one more and others
+parted : (n : ℕ) (row : List Processing) → n < length row → (p : Processing) × (ps : List Processing) × (row ≡ take n row ++ (p ∷ ps))
+parted zero [] h = absurd (omega arith)
+parted zero (p ∷ row) h = (p, row, refl)
+parted (suc n) [] h = absurd (omega arith)
+parted (suc n) (p ∷ row) h = let r = parted n row (omega arith) in (r.0, r.1, ap (p ∷◌) r.2)
+
+pub right_loaded : (row : List Processing) (q : Processing) (qs : List Processing) → 512 < length row → (a b : Name) (r : Answer) → Right (take 512 row ++ (q ∷ qs)) a b r → Right row a b r
+unfolding Right bad_place
+right_loaded row q qs h a b r right =
+    let p = parted 512 row h in
+    let l = bad_long [] (take 512 row) q p.0 qs p.1 (omega (arith, length-take-le 512 row (omega arith))) in
+    past (l.0, l.1 ∙ sym (ap (first_bad []) p.2)) r right
+  where
+    past : (0 < bad_place (take 512 row ++ (q ∷ qs))) × (bad_place (take 512 row ++ (q ∷ qs)) ≡ bad_place row) → (r : Answer) → Right (take 512 row ++ (q ∷ qs)) a b r → Right row a b r
+    past l (Bad k) h = (h.0, sym l.1 ∙ h.1)
+    past l Unknown h = absurd (omega (arith, l.0, h.0))
+    past l Yes h = absurd (omega (arith, l.0, h.0))
+    past l No h = absurd (omega (arith, l.0, h.0))
 
 -- and no bad record is passed over
 good_up_to : (row : List Processing) (n : ℕ) → bad_place row ≡ 0 → n ≤ length row → Good row n

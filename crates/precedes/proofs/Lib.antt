@@ -3,7 +3,6 @@ pub mod Rows
 pub mod Chains
 pub mod Admitted
 pub mod Reading
-pub mod Tables
 pub mod Answers
 pub mod Steps
 pub mod Facts

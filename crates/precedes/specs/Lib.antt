@@ -5,5 +5,4 @@ pub mod Chains
 pub mod Visits
 pub mod Links
 pub mod Reading
-pub mod Tables
 pub mod Cases

@@ -1,5 +1,5 @@
 -- Reading a row record by record: where each name stands, and the links of each record.
-use Rattle.std.specs.Prelude.{◌≡◌, Bool, true, false, cond, ◌&&◌, ◌||◌, not, List, ℕ, ◌+◌, ◌-◌, ◌*◌, ◌<◌, ◌≤◌, eqb, leb, length, take, get_or, set}
+use Rattle.std.specs.Prelude.{Option, None, Some, is_some, IfSome, unwrap_or, ◌≡◌, Bool, true, false, cond, ◌&&◌, ◌||◌, not, List, ℕ, ◌+◌, ◌-◌, ◌*◌, ◌<◌, ◌≤◌, eqb, leb, length, take, get_or, set}
 use Rattle.std.proofs.Common.{inl, inr, arith, eq-eqb, ne_eqb, leb-true, le-leb, get_or-set_same, get_or-set_other}
 use Rattle.lists.specs.Tests.{either, and_l, and_r, and_i}
 use Rattle.precedes.specs.{declared.Processing.Processing, Precedes.{Name, name, stands, in_range}}
@@ -73,6 +73,15 @@ known_stands row i at n l k = elim (k n) [
       (λ e. rw (e, eq-eqb (found at n) 0 z.0))
   | inr p ↦ rw (before_stands n row i p.0 l p.1 p.3, ne_eqb (found at n) 0 (λ z. omega (arith, z, p.2)))
 ]
+
+-- what the table answers, 0 as nothing: whether the name was found
+pub is_found : (r : Option ℕ) {v : ℕ} → unwrap_or r 0 ≡ v → IfSome r (λ place. 0 < place) → is_some r ≡ not (eqb v 0)
+is_found None e h = rw (← e)
+is_found (Some p) {v} e h = rw (ne_eqb v 0 (λ z. omega (arith, e, z, h)))
+
+pub not_found : (r : Option ℕ) {v : ℕ} → unwrap_or r 0 ≡ v → IfSome r (λ place. 0 < place) → eqb v 0 ≡ not (is_some r)
+not_found None e h = rw (← e)
+not_found (Some p) {v} e h = ne_eqb v 0 (λ z. omega (arith, e, z, h))
 
 -- a TN is next where it does not stand itself, and the one below it does, or it is 1
 unfoldable pub next_by : List ℕ → ℕ → ℕ → Bool

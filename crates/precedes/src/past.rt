@@ -1,10 +1,10 @@
 // The past of a processing: the records from which a chain leads to it.
-ghost use Rattle.std.specs.Prelude.{◌≡◌, ◌≤◌, length};
+ghost use Rattle.std.specs.Prelude.{◌≤◌};
 ghost use Rattle.precedes.specs.Visits.{Falls, Whole, Visited};
 
 // Marks the record at a place and all that came before it; place 0 is no record. Each record is visited once, so the time is linear.
-pub fn visit(before: &[u16], sent: &[u16], seen: &mut [bool], place: u16)
-    requires before_len { (length before.now ≡ 512) × (length sent.now ≡ 512) × (length seen.old ≡ 512) × (place ≤ 512) }
+pub fn visit(before: &[u16; 512], sent: &[u16; 512], seen: &mut [bool; 512], place: u16)
+    requires low { place ≤ 512 }
     requires falls { Falls before.now × Falls sent.now }
     requires whole { Whole before.now sent.now seen.old place }
     ensures { Visited before.now sent.now place seen.old seen.new }

@@ -27,8 +27,10 @@ module _ (s : State) (p c : ℕ) (l : List Entry) where
   unfolding limit filled_table filling
   fit e k q = rw (length_filled_table s p c, ← (held_same true _ l _ e).0, ← (held_same true _ l _ e).1 refl, q)
 
-module _ (xs : List ℕ) (p c : ℕ) (hp : p < 7) (hc : c < 13) (h : ℕ) (height : h ≡ (memory_view (span (copy_from c) (copy_from c + MEMORY) xs)).height) (ws : List ℕ) (size : length ws ≡ ROW)
-    (a : List ℕ) (x : Bool) (first : held x (entries a) ≡ entering (entries (set ws 0 0)) (gather copied (entries (span (copy_from c + TABLE) (copy_from c + LOG) xs)))) where
+module _ (xs : List ℕ) (p c : ℕ) (hp : p < 7) (hc : c < 13) (h : ℕ) (height : h ≡ (memory_view (span (copy_from c) (copy_from c + MEMORY) xs)).height) (ws : List ℕ) (size : length ws ≡ ROW) where
+  abbrev copieds : List Entry
+  copieds = gather copied (entries (span (copy_from c + TABLE) (copy_from c + LOG) xs))
+
   abbrev senders : List Entry
   senders = gather (sender_tickets (view xs) p c h) every_sender
 
@@ -38,30 +40,33 @@ module _ (xs : List ℕ) (p c : ℕ) (hp : p < 7) (hc : c < 13) (h : ℕ) (heigh
   same_height : h ≡ ((view xs).copy c).height
   same_height = height ∙ sym (copy_height xs c hc)
 
-  after_first : more 16 enter (more 16 enter (held x (entries a)) senders) noteds ≡ limit 16 (restored_table (view xs) p c)
+  after_first : (x : Bool) (a : List ℕ) → held x (entries a) ≡ entering (entries (set ws 0 0)) copieds → more 16 enter (more 16 enter (held x (entries a)) senders) noteds ≡ limit 16 (restored_table (view xs) p c)
   unfolding restored_table
-  after_first =
+  after_first x a first =
       rw (first, emptied ws size, ← copy_table xs c hc, ← more_append 16 enter _ senders noteds, ← more_append 16 enter)
       (entering_all [] _ (omega arith) ∙ rw (known_is (view xs) p c, same_height))
 
-  pub build_stop : x ≡ false → held false (entries a) ≡ limit 16 (filled_table (view xs) p c)
+  pub build_stop : (a : List ℕ) → held false (entries a) ≡ entering (entries (set ws 0 0)) copieds → held false (entries a) ≡ limit 16 (filled_table (view xs) p c)
   unfolding held
-  build_stop f = unfit (view xs) p c (entries a) (sym (more_none 16 enter noteds) ∙ rw (← more_none 16 enter senders) (rw f at after_first))
+  build_stop a first = unfit (view xs) p c (entries a) (sym (more_none 16 enter noteds) ∙ rw (← more_none 16 enter senders) (after_first false a first))
 
-  module _ (f : x ≡ true) (b : List ℕ) (y : Bool) (second : held y (entries b) ≡ entering (entries a) (gather (sender_tickets (view xs) p c h) every_sender)) where
-    after_second : more 16 enter (held y (entries b)) noteds ≡ limit 16 (restored_table (view xs) p c)
-    after_second = rw second (rw f at after_first)
+  module _ (a : List ℕ) (first : held true (entries a) ≡ entering (entries (set ws 0 0)) copieds) where
+    after_second : (y : Bool) (b : List ℕ) → held y (entries b) ≡ entering (entries a) senders → more 16 enter (held y (entries b)) noteds ≡ limit 16 (restored_table (view xs) p c)
+    after_second y b second = rw second (after_first true a first)
 
-    pub build_stop_2 : y ≡ false → held false (entries b) ≡ limit 16 (filled_table (view xs) p c)
+    pub build_stop_2 : (b : List ℕ) → held false (entries b) ≡ entering (entries a) senders → held false (entries b) ≡ limit 16 (filled_table (view xs) p c)
     unfolding held
-    build_stop_2 g = unfit (view xs) p c (entries b) (sym (more_none 16 enter noteds) ∙ (rw g at after_second))
+    build_stop_2 b second = unfit (view xs) p c (entries b) (sym (more_none 16 enter noteds) ∙ after_second false b second)
 
-    module _ (g : y ≡ true) (d : List ℕ) (z : Bool) (third : held z (entries d) ≡ entering (entries b) (gather (noted c h) (notes (span (notes_from p) (notes_from p + NOTELIST) xs)))) where
-      all_three : held z (entries d) ≡ limit 16 (restored_table (view xs) p c)
-      all_three = third ∙ rw (← notes_kept xs p hp) (rw g at after_second)
+    module _ (b : List ℕ) (second : held true (entries b) ≡ entering (entries a) senders) where
+      abbrev kept : List Entry
+      kept = gather (noted c h) (notes (span (notes_from p) (notes_from p + NOTELIST) xs))
 
-      pub build_stop_3 : z ≡ false → held false (entries d) ≡ limit 16 (filled_table (view xs) p c)
-      build_stop_3 e = unfit (view xs) p c (entries d) (rw e at all_three)
+      all_three : (z : Bool) (d : List ℕ) → held z (entries d) ≡ entering (entries b) kept → held z (entries d) ≡ limit 16 (restored_table (view xs) p c)
+      all_three z d third = third ∙ rw (← notes_kept xs p hp) (after_second true b second)
 
-      pub build_all : z ≡ true → (out : List ℕ) → entries out ≡ filling c h (entries d) (gather (local_log (view xs) p) every_chare) → held true (entries out) ≡ limit 16 (filled_table (view xs) p c)
-      build_all e out put = fit (view xs) p c (entries d) (rw e at all_three) (entries out) (put ∙ rw same_height)
+      pub build_stop_3 : (d : List ℕ) → held false (entries d) ≡ entering (entries b) kept → held false (entries d) ≡ limit 16 (filled_table (view xs) p c)
+      build_stop_3 d third = unfit (view xs) p c (entries d) (all_three false d third)
+
+      pub build_all : (d : List ℕ) → held true (entries d) ≡ entering (entries b) kept → (out : List ℕ) → entries out ≡ filling c h (entries d) (gather (local_log (view xs) p) every_chare) → held true (entries out) ≡ limit 16 (filled_table (view xs) p c)
+      build_all d third out put = fit (view xs) p c (entries d) (all_three true d third) (entries out) (put ∙ rw same_height)

@@ -10,17 +10,17 @@ use Rattle.store.specs.View.{done, tried}
 unfoldable pub asked : State → ℕ → List Question
 asked s p = 2 asks s.job.set ∷ 3 asks is_machine s p ∷ 4 asks not s.lost ∷ 5 asks is_down (s.status p) ∷ []
 
-module _ (s : State) (p n : ℕ) (e : n ≡ first_no (asked s p)) where
+module _ (s : State) (p : ℕ) where
   abbrev rest : List Question
   rest = 10 asks tables_fit s p ∷ 11 asks wire_fits (restart s p) ∷ []
 
   abbrev end : Outcome
   end = done Other (restart s p)
 
-  pub early : n ≢ 0 → tried s (restart_questions s p) (restart s p) ≡ record { state = s; answer = Refused n }
+  pub early : (n : ℕ) → n ≡ first_no (asked s p) → n ≢ 0 → tried s (restart_questions s p) (restart s p) ≡ record { state = s; answer = Refused n }
   unfolding tried restart_questions judged asked
-  early h = rw (put_no (asked s p) rest end (λ z. h (e ∙ z)), ← e)
+  early n e h = rw (put_no (asked s p) rest end (λ z. h (e ∙ z)), ← e)
 
-  pub late : n ≡ 0 → tried s (restart_questions s p) (restart s p) ≡ judged s (put_all rest end)
+  pub late : 0 ≡ first_no (asked s p) → tried s (restart_questions s p) (restart s p) ≡ judged s (put_all rest end)
   unfolding tried restart_questions asked
-  late z = ap (judged s) (put_after (asked s p) rest end (first_no_yes (asked s p) refl (sym e ∙ z)))
+  late e = ap (judged s) (put_after (asked s p) rest end (first_no_yes (asked s p) refl (sym e)))

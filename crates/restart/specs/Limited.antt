@@ -67,14 +67,11 @@ module _ {A B : Type 0} (K : ℕ) (step : List A → B → List A) where
       unfolding gather
       more_skip q = inv ∙ rw (e, q)
 
-      module _ (fits : Bool) (m : List A) (put : held fits m ≡ more (held true l) (g x)) where
-        turn : a ≡ more (held fits m) (gather g left)
+      module _ (m : List A) where
+        pub more_on : held true m ≡ more (held true l) (g x) → a ≡ more (held true m) (gather g left)
         unfolding gather
-        turn = inv ∙ rw (e, more_append (held true l) (g x) (gather g left), put)
+        more_on put = inv ∙ rw (e, more_append (held true l) (g x) (gather g left), put)
 
-        pub more_on : fits ≡ true → a ≡ more (held true m) (gather g left)
-        more_on f = turn ∙ rw f
-
-        pub more_stop : fits ≡ false → held false m ≡ a
-        unfolding held
-        more_stop f = sym (turn ∙ rw f (more_none (gather g left)))
+        pub more_stop : held false m ≡ more (held true l) (g x) → held false m ≡ a
+        unfolding gather held
+        more_stop put = sym (inv ∙ rw (e, more_append (held true l) (g x) (gather g left), ← put) (more_none (gather g left)))

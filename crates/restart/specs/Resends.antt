@@ -1,20 +1,19 @@
 -- The messages sent again at a restart. What is restored is the copy with another table and top, so heights and logs of the chares on p are
 -- those of the copies.
-use Rattle.std.specs.Prelude.{◌≡◌, Bool, true, false, cond, List, [], ◌∷◌, map, ℕ, eqb, ltb}
+use Rattle.std.specs.Prelude.{◌≡◌, Bool, true, false, cond, List, [], ◌∷◌, map, ℕ, eqb, ltb, Option, None, Some}
 use Rattle.std.proofs.Common.{ap, mod-eq_of_lt}
 use Rattle.std.proofs.Math.Path.{fun_ext}
 use Rattle.lists.specs.{Tests.either, Lists.{gather, sort}}
-use Rattle.protocol.specs.{declared.Content.TheVariants.{Ask as ASK, Data as DATA}, declared.Logged.Logged, declared.Message.Message}
+use Rattle.protocol.specs.{declared.Content.Content, declared.Content.TheVariants.{Ask as ASK, Data as DATA}, declared.Logged.Logged, declared.Message.Message}
 use Rattle.protocol.specs.{declared.Packet.Packet, Parts.{State, on, at_home, every_sender}, Sending.about}
 use Rattle.protocol.specs.{Restart.{from_elsewhere, from_here, resend, resends, restore, restored, log_order}}
 use Rattle.logs.specs.Fits.{Fits}
 use Rattle.packets.specs.Words.{fitted, fit_content}
-use Rattle.restart.specs.{declared.resend.Outgoing.Outgoing, declared.resend.Outgoing.TheVariants.{Nothing, Send}}
 
 -- none or one
-unfoldable pub packets_of : Message → Outgoing → List Packet
-packets_of m Nothing = []
-packets_of m (Send c) = about m c ∷ []
+unfoldable pub packets_of : Message → Option Content → List Packet
+packets_of m None = []
+packets_of m (Some c) = about m c ∷ []
 
 -- ---- one message: h is the height of its receiver
 unfoldable pub elsewhere : ℕ → Logged → List Packet

@@ -8,8 +8,7 @@ use Rattle.protocol.specs.{declared.Logged.Logged, declared.Packet.Packet, Parts
 use Rattle.logs.specs.Fits.{Fits}
 use Rattle.item.specs.{declared.Item.Item, Item.items, Both.as_many}
 use Rattle.packets.specs.{Words.{fitted, unpacked, packets}, Packing.packed}
-use Rattle.restart.specs.declared.resend.Outgoing.{Outgoing}
-use Rattle.restart.specs.{Limited.{held, limit, one, more, more_limit}, Resends.{packets_of, again, again_fits}}
+use Rattle.restart.specs.{Limited.{held, limit, one, more, more_limit}, Resends.{again, again_fits}}
 
 abbrev pub one_more : List Packet → Packet → List Packet
 one_more l x = l ++ (x ∷ [])
@@ -39,9 +38,9 @@ unfolding packets
 words_many ws = as_many unpacked ws
 
 -- a logged message sent again: what a word holds is what goes out
-pub put_again : (x : Logged) → Fits x.message → (s : State) (p : ℕ) (here : Bool) (o : Outgoing) → packets_of x.message o ≡ again s p here x
-    → (l : List Packet) (a : Option (List Packet)) → a ≡ putting l (map fitted (packets_of x.message o)) → a ≡ putting l (again s p here x)
-put_again x fits s p here o e l a put = put ∙ ap (putting l) (ap (map fitted) e ∙ again_fits x fits s p here)
+pub put_again : (x : Logged) → Fits x.message → (s : State) (p : ℕ) (here : Bool) (b : Packet) → b ∷ [] ≡ again s p here x
+    → (l : List Packet) (a : Option (List Packet)) → a ≡ putting l (fitted b ∷ []) → a ≡ putting l (again s p here x)
+put_again x fits s p here b e l a put = put ∙ ap (putting l) (ap (map fitted) e ∙ again_fits x fits s p here)
 
 -- ---- all packets
 pub putting_all : (l xs : List Packet) → length l ≤ 128 → putting l xs ≡ limit 128 (l ++ xs)

@@ -2,82 +2,60 @@
 #![tactic(auto)]
 
 mod back;
-mod over;
 mod resend;
 mod table;
 
-ghost use Rattle.std.specs.Prelude.{◌≡◌, ◌≤◌, length};
+ghost use Rattle.std.specs.Prelude.{◌≡◌, ◌≤◌};
 ghost use Rattle.lists.specs.Questions.{first_no};
-ghost use Rattle.protocol.specs.Parts.{is_down};
+ghost use Rattle.protocol.specs.Numbers.{refusal_of, answered};
 ghost use Rattle.protocol.specs.Restart.{restart};
 ghost use Rattle.protocol.specs.Questions.{restart_questions};
 ghost use Rattle.packets.specs.Words.{packets};
-ghost use Rattle.store.specs.Places.{PACKETS, STORE};
 ghost use Rattle.store.specs.View.{view, tried, Framed};
-ghost use Rattle.restart.specs.Homes.{ROWS};
 ghost use Rattle.restart.specs.Judged.{asked};
 ghost use Rattle.restart.specs.Whole.{back};
 
 use back::{all_back, tables};
 use head::STATUS;
-use over::copy_over;
-use protocol::{Answer, Rule, Status};
+use memory::ROW;
+use protocol::{Refusal, Rule, Status};
 use resend::resend_all;
-use store::{STORE, WIRE};
-
-fn is_down(s: &[u64], p: u8) -> bool
-    requires { length s.now ≡ STORE }
-    ensures { result ≡ is_down ((view s.now).status p) }
-{
-    match head::status(s, p) {
-        Status::Up => false,
-        Status::Down => true,
-        Status::CatchingUp => false,
-    }
-}
+use store::{PACKETS, STORE, WIRE};
 
 // The questions 2 to 5.
-fn judge(s: &[u64], p: u8) -> u8
-    requires { length s.now ≡ STORE }
-    ensures { result ≡ first_no (asked (view s.now) p) }
+fn judge(s: &[u64; STORE], p: u8) -> Result<(), Refusal>
+    ensures { refusal_of result ≡ first_no (asked (view s.now) p) }
 {
+    let is_down = head::status(s, p) == Status::Down;
     head::first_no(
         head::is_set(s),
         head::is_machine(s, p),
         head::is_lost(s),
-        is_down(s, p),
+        is_down,
     )
 }
 
 // Machine p is catching up, with the tables and the wire that were built.
-fn change(s: &mut [u64], p: u8, rows: &[u64], wire: &[u64])
-    requires { (length s.old ≡ STORE) × (1 ≤ p) × (p ≤ 6) × (length rows.now ≡ ROWS) × (length wire.now ≡ PACKETS) }
+fn change(s: &mut [u64; STORE], p: u8, rows: &[[u64; ROW]; 13], wire: &[u64; PACKETS])
+    requires { (1 ≤ p) × (p ≤ 6) }
     ensures { view s.new ≡ back (view s.old) p rows.now (packets wire.now) }
 {
     s[STATUS + p as usize] = 2;
     all_back(s, p, rows);
-    copy_over(wire, &mut s[WIRE..STORE]);
+    s[WIRE..].copy_from_slice(wire);
 }
 
 // Frame 15.
-pub fn restart(s: &mut [u64], p: u8) -> Answer
-    requires { length s.old ≡ STORE }
-    ensures { Framed s.old s.new result (tried (view s.old) (restart_questions (view s.old) p) (restart (view s.old) p)) }
+pub fn restart(s: &mut [u64; STORE], p: u8) -> Result<Rule, Refusal>
+    ensures { Framed s.old s.new (answered result) (tried (view s.old) (restart_questions (view s.old) p) (restart (view s.old) p)) }
 {
-    let no = judge(s, p);
-    if no != 0 {
-        return Answer::Refused(no);
-    }
-    let mut rows = [0u64; 221];
-    if !tables(s, p, &mut rows) {
-        return Answer::Refused(10);
-    }
-    let mut wire = [0u64; 129];
-    copy_over(&s[WIRE..STORE], &mut wire);
+    judge(s, p)?;
+    let mut rows = [[0; ROW]; 13];
+    tables(s, p, &mut rows).map_err(|_| Refusal::TableFull)?;
+    let mut wire = [0; PACKETS];
+    wire.copy_from_slice(&s[WIRE..]);
     packets::after_restart(&mut wire, s, p);
-    if !resend_all(s, p, &mut wire) {
-        return Answer::Refused(11);
-    }
+    resend_all(s, p, &mut wire).map_err(|_| Refusal::WireFull)?;
     change(s, p, &rows, &wire);
-    Answer::Accepted(Rule::Other)
+    Ok(Rule::Other)
 }

@@ -1,24 +1,21 @@
 // The entries of the static library, for callers in C and Rust.
 #![tactic(auto)]
 
-ghost use Rattle.std.specs.Prelude.{◌≡◌, cond};
+ghost use Rattle.std.specs.Prelude.{◌≡◌, cond, is_ok};
 ghost use Rattle.store.specs.Places.{STORE};
-ghost use Rattle.transcript.specs.View.{reading, Feeding};
+ghost use Rattle.transcript.specs.View.{reading, Feeding, written_of};
 ghost use Rattle.satuphir.specs.Entry.{no_room, Entered, Finished, Counted, Answered};
 
 use crashsets::ROOM;
 use precedes::Processing;
 use store::STORE;
-use transcript::LINE;
+use transcript::{LINE, NoRoom};
 
 // How many bytes were written, or the largest number where room ran out.
-fn number(ok: bool, written: usize) -> usize
-    ensures { result ≡ cond ok written no_room }
+fn number(end: Result<usize, NoRoom>) -> usize
+    ensures { result ≡ cond (is_ok end) (written_of end) no_room }
 {
-    if ok {
-        return written;
-    }
-    usize::MAX
+    end.unwrap_or(usize::MAX)
 }
 
 // Writes the answers to a whole input into the buffer and returns how many bytes they are. Where fewer than 16 bytes are left ahead of a
@@ -28,9 +25,9 @@ fn number(ok: bool, written: usize) -> usize
 pub extern "C" fn satuphir_transcript(input: &[u8], out: &mut [u8], written: &mut usize) -> usize
     ensures { Entered input.now out.old result written.new out.new }
 {
-    let e = transcript::whole(input, out);
-    *written = e.written;
-    number(e.ok, e.written)
+    let end = transcript::whole(input, out);
+    *written = end.unwrap_or_else(|no| no.written);
+    number(end)
 }
 
 // How many words a store has: it moves when the rules do, and a caller that was built with another header sees it here.
@@ -54,8 +51,7 @@ pub extern "C" fn satuphir_feed(
 ) -> usize
     ensures { Feeding (reading store.old line.old len.old) input.now out.old (record { len = len.new; taken = result; written = written.new }) store.new line.new out.new }
 {
-    let n = *len;
-    let f = transcript::feed(store, line, n, input, out);
+    let f = transcript::feed(store, line, *len, input, out);
     *len = f.len;
     *written = f.written;
     f.taken
@@ -72,12 +68,11 @@ pub extern "C" fn satuphir_finish(
 ) -> usize
     ensures { Finished (reading store.old line.old len.old) len.old out.old result len.new store.new line.new out.new }
 {
-    let n = *len;
-    let e = transcript::finish(store, line, n, out);
-    if e.ok {
+    let end = transcript::finish(store, line, *len, out);
+    if end.is_ok() {
         *len = 0;
     }
-    number(e.ok, e.written)
+    number(end)
 }
 
 // Writes how many crash sets are survived by the job in the first line of the input, and returns how many bytes these lines are. Where
@@ -86,10 +81,10 @@ pub extern "C" fn satuphir_finish(
 pub extern "C" fn satuphir_survivors(input: &[u8], out: &mut [u8]) -> usize
     ensures { Counted input.now out.old result out.new }
 {
-    if out.len() < ROOM {
-        return usize::MAX;
+    match out.first_chunk_mut::<ROOM>() {
+        Some(front) => crashsets::survivors(input, front),
+        None => usize::MAX,
     }
-    crashsets::survivors_on(input, out)
 }
 
 // Does the processing of `chare` with TN `tn` precede that of `later_chare` with TN `later_tn` in the row? 0 no, 1 yes, 2 that one of
@@ -104,6 +99,5 @@ pub extern "C" fn satuphir_precedes(
 ) -> u32
     ensures { Answered row.now (chare, tn) (later_chare, later_tn) result }
 {
-    let a = precedes::precedes(row, chare, tn, later_chare, later_tn);
-    precedes::number(a)
+    u32::from(precedes::precedes(row, chare, tn, later_chare, later_tn))
 }

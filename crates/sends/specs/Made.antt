@@ -4,6 +4,7 @@ use Rattle.std.proofs.Common.{sym, ap, ◌∙◌, ne_eqb, le-leb}
 use Rattle.lists.specs.Questions.{Yes, yes_put, put_first, first_no, first_no_yes}
 use Rattle.protocol.specs.{declared.Rule.TheVariants.Other, declared.Answer.TheVariants.{Accepted, Refused}, Parts.{State, Job}, Sending.{send, send_all}, Work.{receivers, ports, port}}
 use Rattle.protocol.specs.{Questions.{put_to_all, wire_fits}, Step.judged}
+use Rattle.protocol.specs.{declared.Refusal.Refusal, Numbers.{number, number_not_zero}}
 use Rattle.store.specs.{Places.STORE, View.{view, outcome}}
 use Rattle.sends.specs.{declared.plan.Plan.Plan, Plan.{plan_of, plan_after}, Reading.wire_top, Ticket.message_after, Stored.to_sent, SecondLaws.after_first}
 use Rattle.sends.specs.{Sends.{one_verdict, two_verdict, sends_questions, tried_sends, one_judged, two_judged}, Sendable.{plan_fits, rest_yes, is_made}}
@@ -14,32 +15,31 @@ pub record Made (before after : List ℕ) (a : ℕ) (l : List ℕ) (v h n : ℕ)
   pub stays : (n ≡ 0 → ⊥) → after ≡ before
   pub made : n ≡ 0 → view after ≡ send_all (view before) a l v h
 
-module _ {xs : List ℕ} {a : ℕ} {l : List ℕ} {v h n : ℕ} (said : n ≡ first_no (sends_questions (view xs) a l v h)) where
-  pub none_sent : (n ≡ 0 → ⊥) → Made xs xs a l v h n
-  none_sent f = record { said = said; stays = λ _. refl; made = λ z. absurd (f z) }
+module _ {xs : List ℕ} {a : ℕ} {l : List ℕ} {v h : ℕ} where
+  pub none_sent : (e : Refusal) → number e ≡ first_no (sends_questions (view xs) a l v h) → Made xs xs a l v h (number e)
+  none_sent e said = record { said = said; stays = λ _. refl; made = λ z. absurd (number_not_zero e z) }
 
-  all_sent : n ≡ 0 → {ys : List ℕ} → (Yes (sends_questions (view xs) a l v h) → view ys ≡ send_all (view xs) a l v h) → Made xs ys a l v h 0
+  all_sent : 0 ≡ first_no (sends_questions (view xs) a l v h) → {ys : List ℕ} → (Yes (sends_questions (view xs) a l v h) → view ys ≡ send_all (view xs) a l v h) → Made xs ys a l v h 0
   unfolding sends_questions
-  all_sent z e = record { said = sym z ∙ said; stays = λ f. absurd (f refl); made = λ _. e (first_no_yes (sends_questions (view xs) a l v h) refl (sym said ∙ z)) }
+  all_sent said e = record { said = said; stays = λ f. absurd (f refl); made = λ _. e (first_no_yes (sends_questions (view xs) a l v h) refl (sym said)) }
 
-module _ (xs : List ℕ) (a b v h : ℕ) (p : Plan) (p-is : p ≡ plan_of (view xs) a b) (log wire n : ℕ)
+module _ (xs : List ℕ) (a b v h : ℕ) (p : Plan) (p-is : p ≡ plan_of (view xs) a b) (log wire : ℕ)
     (log_is : log ≡ length ((view xs).live a).log) (wire_is : wire ≡ length (view xs).wire) where
-  module _ (n-is : n ≡ one_verdict p log wire) where
-    pub one_said : n ≡ first_no (sends_questions (view xs) a (b ∷ []) v h)
-    one_said = n-is ∙ rw (p-is, log_is, wire_is) (sym (one_judged (view xs) a b v h))
+  pub one_said : {n : ℕ} → n ≡ one_verdict p log wire → n ≡ first_no (sends_questions (view xs) a (b ∷ []) v h)
+  one_said n-is = n-is ∙ rw (p-is, log_is, wire_is) (sym (one_judged (view xs) a b v h))
 
-    pub one_made : n ≡ 0 → (ys : List ℕ) → view ys ≡ to_sent (view xs) (message_after a b (((view xs).live a).sn b) v h) p.ticket → Made xs ys a (b ∷ []) v h 0
-    unfolding send_all
-    one_made z ys e = all_sent one_said z (λ y. e ∙ rw p-is (is_made a v h (view xs) b [] y))
+  pub one_made : 0 ≡ one_verdict p log wire → (ys : List ℕ) → view ys ≡ to_sent (view xs) (message_after a b (((view xs).live a).sn b) v h) p.ticket → Made xs ys a (b ∷ []) v h 0
+  unfolding send_all
+  one_made z ys e = all_sent (one_said z) (λ y. e ∙ rw p-is (is_made a v h (view xs) b [] y))
 
-  module _ (d : ℕ) (q : Plan) (q-is : q ≡ plan_after (view xs) a b p.ticket d) (n-is : n ≡ two_verdict p q log wire) where
-    pub two_said : n ≡ first_no (sends_questions (view xs) a (b ∷ d ∷ []) v h)
-    two_said = n-is ∙ rw (q-is, p-is, log_is, wire_is) (sym (two_judged (view xs) a b v h d))
+  module _ (d : ℕ) (q : Plan) (q-is : q ≡ plan_after (view xs) a b p.ticket d) where
+    pub two_said : {n : ℕ} → n ≡ two_verdict p q log wire → n ≡ first_no (sends_questions (view xs) a (b ∷ d ∷ []) v h)
+    two_said n-is = n-is ∙ rw (q-is, p-is, log_is, wire_is) (sym (two_judged (view xs) a b v h d))
 
-    pub two_made : n ≡ 0 → (ys : List ℕ) → view ys ≡ to_sent (view xs) (message_after a b (((view xs).live a).sn b) v h) p.ticket
+    pub two_made : 0 ≡ two_verdict p q log wire → (ys : List ℕ) → view ys ≡ to_sent (view xs) (message_after a b (((view xs).live a).sn b) v h) p.ticket
         → (zs : List ℕ) → view zs ≡ to_sent (view ys) (message_after a d (((view ys).live a).sn d) v h) q.ticket → Made xs zs a (b ∷ d ∷ []) v h 0
     unfolding send_all
-    two_made z ys e zs g = all_sent two_said z (λ y.
+    two_made z ys e zs g = all_sent (two_said z) (λ y.
         let s = view xs in
         let one : view ys ≡ send s a b v h = e ∙ rw p-is (is_made a v h s b (d ∷ []) y) in
         g ∙ rw (one, q-is, p-is, ← after_first s a b v h d (plan_fits a v h s b (d ∷ []) y)) (is_made a v h (send s a b v h) d [] (rest_yes a v h s b (d ∷ []) y)))

@@ -1,5 +1,5 @@
 -- How a message to be sent gets its ticket, and what the send changes.
-use Rattle.std.specs.Prelude.{Bool, true, false, cond, List, [], ◌∷◌, ◌++◌, ℕ, ◌+◌, ltb}
+use Rattle.std.specs.Prelude.{◌≡◌, ◌≢◌, refl, Bool, true, false, cond, List, [], ◌∷◌, ◌++◌, ℕ, ◌+◌, ltb}
 use Rattle.lists.specs.Map.{upd}
 use Rattle.arrays.specs.Front.{push}
 use Rattle.protocol.specs.{declared.Message.Message, declared.Entry.Entry, declared.Packet.Packet, declared.Logged.Logged}
@@ -20,6 +20,13 @@ is_new Remote = false
 is_new (Found t) = false
 is_new (New t) = true
 is_new TooHigh = false
+
+pub not_new : (k : Ticket) → ((t : ℕ) → k ≢ New t) → is_new k ≡ false
+unfolding is_new
+not_new Remote h = refl
+not_new (Found t) h = refl
+not_new (New t) h = absurd (h t refl)
+not_new TooHigh h = refl
 
 -- how many packets go to the wire
 unfoldable pub growth : Ticket → ℕ

@@ -3,7 +3,7 @@ use Rattle.std.specs.Prelude.{◌≡◌, refl, List, ℕ, ◌<◌}
 use Rattle.std.proofs.Common.{sym, ap, ◌∙◌, arith}
 use Rattle.std.proofs.Math.Option.{Option, some, none}
 use Rattle.lists.specs.Questions.{put_all, first_no, first_no_yes}
-use Rattle.protocol.specs.{declared.Answer.Answer, declared.Answer.TheVariants.Refused, declared.Entry.Entry, Parts.up, Working.next_entry}
+use Rattle.protocol.specs.{declared.Answer.Answer, declared.Answer.TheVariants.Refused, declared.Entry.Entry, declared.Refusal.Refusal, Parts.up, Working.next_entry, Numbers.{number, number_not_zero}}
 use Rattle.protocol.specs.{Questions.{is_chare, work_questions, entry_questions}, Step.{Outcome, judged}}
 use Rattle.protocol.proofs.{Recovery.Laws.Lookups.next_entry_some}
 use Rattle.words.specs.Part.{part}
@@ -28,27 +28,28 @@ module _ (ws : List ℕ) where
       go none q = refl
       go (some e) q = absurd (omega (arith, (next_entry_some (memory_view ws) q).1, (next_fits e q).3))
 
-module _ (xs : List ℕ) (c n : ℕ) (n-is : n ≡ first_no (chare_asked (job_of xs) (lost_of xs) (status_of xs) c)) where
+module _ (xs : List ℕ) (c : ℕ) where
   abbrev work_outcome : Outcome
   work_outcome = tried (view xs) (work_questions (view xs) c) (worked_state (view xs) c (next_entry ((view xs).live c)))
 
-  asked : n ≡ first_no (chare_questions (view xs) c)
+  asked : {n : ℕ} → n ≡ first_no (chare_asked (job_of xs) (lost_of xs) (status_of xs) c) → n ≡ first_no (chare_questions (view xs) c)
   unfolding view
-  asked = n-is
+  asked e = e
 
-  pub frame_refused : (n ≡ 0 → ⊥) → Framed xs xs (Refused n) work_outcome
+  pub frame_refused : (r : Refusal) → number r ≡ first_no (chare_asked (job_of xs) (lost_of xs) (status_of xs) c) → Framed xs xs (Refused (number r)) work_outcome
   unfolding tried work_questions chare_asked is_chare up runs
-  frame_refused f = refused xs n (stopped (view xs) (chare_questions (view xs) c) _ _ (λ z. f (asked ∙ z)) ∙ rw (← asked))
+  frame_refused r e =
+      refused xs (number r) (stopped (view xs) (chare_questions (view xs) c) _ _ (λ z. number_not_zero r (asked e ∙ z)) ∙ rw (← asked e))
 
-  module _ (z : n ≡ 0) where
+  module _ (z : 0 ≡ first_no (chare_asked (job_of xs) (lost_of xs) (status_of xs) c)) where
     pub index : c < 13
     unfolding chare_asked
-    index = chare_in xs c (first_no_yes (chare_questions (view xs) c) refl (sym asked ∙ z)).1.0
+    index = chare_in xs c (first_no_yes (chare_questions (view xs) c) refl (sym (asked z))).1.0
 
     by_entry : (o : Option Entry) → next_entry (memory_view (part (live_from c) MEMORY xs)) ≡ o → work_outcome ≡ tried_work (view xs) c o
     unfolding tried tried_work work_questions chare_asked is_chare up runs
     by_entry o q =
-        passed (view xs) (chare_questions (view xs) c) _ _ refl (sym asked ∙ z)
+        passed (view xs) (chare_questions (view xs) c) _ _ refl (sym (asked z))
         ∙ ap (tried_work (view xs) c) (rw (live_at xs c index) q)
 
     pub nothing_next : next_entry (memory_view (part (live_from c) MEMORY xs)) ≡ none → Framed xs xs (Refused 6) work_outcome

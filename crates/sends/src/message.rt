@@ -7,21 +7,27 @@ ghost use Rattle.packets.specs.Words.{packets};
 ghost use Rattle.memory.specs.Places.{MEMORY};
 ghost use Rattle.memory.specs.View.{memory_view};
 ghost use Rattle.store.specs.Places.{PACKETS};
-ghost use Rattle.sends.specs.Ticket.{to_wire, to_words, message_after, to_log};
+ghost use Rattle.sends.specs.Ticket.{to_wire, to_words, sn_next, message_after, to_log};
 
 use crate::ticket::Ticket;
 use memory::{LOG, MEMORY, SN};
 use protocol::{Content, Logged, Message, Packet};
 
-// The message after the SN `last`. None passes 60,000.
+// The SN after the last one; from 60,000 on, which words can hold, the last one stays, and `min` would not say so.
+pub fn sn_next(last: u16) -> u16
+    ensures { result ≡ sn_next last }
+{
+    if last < 60000 { last + 1 } else { last }
+}
+
+// The message after the SN `last`.
 pub fn message_after(sender: u8, receiver: u8, last: u16, value: u16, hops: u8) -> Message
     ensures { result ≡ message_after sender receiver last value hops }
 {
-    let sn = if last < 60000 { last + 1 } else { last };
     Message {
         sender,
         receiver,
-        sn,
+        sn: sn_next(last),
         value,
         hops,
     }
@@ -33,10 +39,8 @@ pub fn log_message(x: &mut [u64], m: Message, tn: u16)
     requires sender_bound { (m.sender < 13) × (m.receiver < 13) × (m.hops < 8) }
     ensures { memory_view x.new ≡ to_log (memory_view x.old) m tn }
 {
-    let b = m.receiver as usize;
-    x[SN + b] = m.sn as u64;
-    let y = Logged { message: m, tn };
-    logs::push(&mut x[LOG..MEMORY], y);
+    x[SN + m.receiver as usize] = m.sn as u64;
+    logs::push(&mut x[LOG..MEMORY], Logged { message: m, tn });
 }
 
 fn about(m: Message, content: Content) -> Packet
@@ -59,8 +63,7 @@ pub fn put(ws: &mut [u64], m: Message, k: Ticket)
 {
     match k {
         Ticket::Remote => packets::join(ws, about(m, Content::Ask)),
-        Ticket::Found(_) => {}
         Ticket::New(n) => packets::join(ws, about(m, Content::Note(n))),
-        Ticket::TooHigh => {}
+        Ticket::Found(_) | Ticket::TooHigh => {}
     }
 }

@@ -4,14 +4,13 @@ ghost use Rattle.protocol.specs.Tickets.{next_tn};
 ghost use Rattle.protocol.specs.Packets.{seen};
 ghost use Rattle.memory.specs.Places.{MEMORY};
 ghost use Rattle.memory.specs.View.{memory_view};
-ghost use Rattle.store.specs.Places.{STORE};
 ghost use Rattle.store.specs.View.{view};
 ghost use Rattle.sends.specs.Plan.{idle, new_plan, plan_for, plan_of, plan_after, last_after, base_after, extra_after};
 
+use crate::message::sn_next;
 use crate::ticket::Ticket;
 use memory::{LOG, MEMORY, TABLE};
-use store::{LIVE, last_sn};
-use tickets::FoundEntry;
+use store::{LIVE, STORE, last_sn};
 
 // What a send needs to know before it is made: its ticket, whether the window admits it and whether the table has room for it.
 #[derive(Clone, Copy)]
@@ -56,27 +55,16 @@ fn new_plan(y: &[u64], a: u8, n: u16, base: u16, extra: u8) -> Plan
 fn last_after(same: bool, n: u16, m: u16) -> u16
     ensures { result ≡ last_after same n m }
 {
-    if !same {
-        return m;
-    }
-    if 60000 <= n {
-        return n;
-    }
-    n + 1
+    if same { sn_next(n) } else { m }
 }
 
 // The TN that new ones lie above.
 fn base_after(same: bool, k: Ticket, height: u16) -> u16
     ensures { result ≡ base_after same k height }
 {
-    if !same {
-        return height;
-    }
     match k {
-        Ticket::Remote => height,
-        Ticket::Found(_) => height,
-        Ticket::New(n) => n,
-        Ticket::TooHigh => height,
+        Ticket::New(n) if same => n,
+        _ => height,
     }
 }
 
@@ -84,14 +72,9 @@ fn base_after(same: bool, k: Ticket, height: u16) -> u16
 fn extra_after(same: bool, k: Ticket) -> u8
     ensures { result ≡ extra_after same k }
 {
-    if !same {
-        return 0;
-    }
     match k {
-        Ticket::Remote => 0,
-        Ticket::Found(_) => 0,
-        Ticket::New(_) => 1,
-        Ticket::TooHigh => 0,
+        Ticket::New(_) if same => 1,
+        _ => 0,
     }
 }
 
@@ -108,37 +91,33 @@ fn plan_on(near: bool, y: &[u64], a: u8, last: u16, same: bool, k: Ticket) -> Pl
         return idle(Ticket::Remote);
     }
     match tickets::find(&y[TABLE..LOG], a, last + 1) {
-        FoundEntry::At(e) => idle(Ticket::Found(e.tn)),
-        FoundEntry::Nothing => {
-            let h = memory::height(y);
-            new_plan(y, a, last + 1, base_after(same, k, h), extra_after(same, k))
+        Some(e) => idle(Ticket::Found(e.tn)),
+        None => {
+            let base = base_after(same, k, memory::height(y));
+            new_plan(y, a, last + 1, base, extra_after(same, k))
         }
     }
 }
 
 // The plan of a send from a to b.
-pub fn plan_of(s: &[u64], a: u8, b: u8) -> Plan
-    requires s_len { length s.now ≡ STORE }
-    requires a_bound { (a < 13) × (b < 13) }
+pub fn plan_of(s: &[u64; STORE], a: u8, b: u8) -> Plan
+    requires { (a < 13) × (b < 13) }
     ensures { result ≡ plan_of (view s.now) a b }
 {
     let near = head::is_local(s, a, b);
     let last = last_sn(s, a, b);
     let y = LIVE + (b as usize) * MEMORY;
-    let e = y + MEMORY;
-    plan_on(near, &s[y..e], a, last, false, Ticket::Remote)
+    plan_on(near, &s[y..y + MEMORY], a, last, false, Ticket::Remote)
 }
 
 // The plan of a second send, to d, as if that to b with the ticket k were made.
-pub fn plan_after(s: &[u64], a: u8, b: u8, k: Ticket, d: u8) -> Plan
-    requires s_len { length s.now ≡ STORE }
-    requires a_bound { (a < 13) × (b < 13) × (d < 13) }
+pub fn plan_after(s: &[u64; STORE], a: u8, b: u8, k: Ticket, d: u8) -> Plan
+    requires { (a < 13) × (b < 13) × (d < 13) }
     ensures { result ≡ plan_after (view s.now) a b k d }
 {
     let near = head::is_local(s, a, d);
     let same = d == b;
     let last = last_after(same, last_sn(s, a, b), last_sn(s, a, d));
     let z = LIVE + (d as usize) * MEMORY;
-    let e = z + MEMORY;
-    plan_on(near, &s[z..e], a, last, same, k)
+    plan_on(near, &s[z..z + MEMORY], a, last, same, k)
 }

@@ -17,37 +17,31 @@ pub enum Ticket {
     TooHigh,
 }
 
-pub fn fits(k: Ticket) -> bool
-    ensures { result ≡ fits k }
-{
-    match k {
-        Ticket::Remote => true,
-        Ticket::Found(_) => true,
-        Ticket::New(_) => true,
-        Ticket::TooHigh => false,
+impl Ticket {
+    pub fn fits(self) -> bool
+        ensures { result ≡ fits self }
+    {
+        !matches!(self, Ticket::TooHigh)
     }
-}
 
-// How many packets go to the wire.
-pub fn growth(k: Ticket) -> u8
-    ensures { result ≡ growth k }
-{
-    match k {
-        Ticket::Remote => 1,
-        Ticket::Found(_) => 0,
-        Ticket::New(_) => 1,
-        Ticket::TooHigh => 0,
+    // How many packets go to the wire.
+    pub fn growth(self) -> u8
+        ensures { result ≡ growth self }
+    {
+        match self {
+            Ticket::Remote | Ticket::New(_) => 1,
+            Ticket::Found(_) | Ticket::TooHigh => 0,
+        }
     }
-}
 
-pub fn tn_of(k: Ticket) -> u16
-    ensures { result ≡ tn_of k }
-{
-    match k {
-        Ticket::Remote => 0,
-        Ticket::Found(n) => n,
-        Ticket::New(n) => n,
-        Ticket::TooHigh => 0,
+    // The TN that the log keeps; 0 is none yet.
+    pub fn tn(self) -> u16
+        ensures { result ≡ tn_of self }
+    {
+        match self {
+            Ticket::Found(n) | Ticket::New(n) => n,
+            Ticket::Remote | Ticket::TooHigh => 0,
+        }
     }
 }
 
@@ -58,13 +52,12 @@ pub fn take_ticket(y: &mut [u64], m: Message, k: Ticket)
     ensures { memory_view y.new ≡ with_table (memory_view y.old) (to_table (memory_view y.old).table m k) }
 {
     match k {
-        Ticket::Remote => {}
         Ticket::Found(_) => tickets::fill(&mut y[TABLE..LOG], m.sender, m.sn, m.value, m.hops),
-        Ticket::New(n) => {
+        Ticket::New(tn) => {
             let e = Entry {
                 sender: m.sender,
                 sn: m.sn,
-                tn: n,
+                tn,
                 received: true,
                 noted: false,
                 value: m.value,
@@ -72,6 +65,6 @@ pub fn take_ticket(y: &mut [u64], m: Message, k: Ticket)
             };
             tickets::push(&mut y[TABLE..LOG], e);
         }
-        Ticket::TooHigh => {}
+        Ticket::Remote | Ticket::TooHigh => {}
     }
 }

@@ -35,5 +35,5 @@ module _ (xs : List ℕ) (c n : ℕ) (is-n : n ≡ first_no (chare_asked (job_of
     module _ (height state : ℕ) (is-height : height ≡ (memory_view (part (live_from c) MEMORY xs)).height) (is_state : state ≡ (memory_view (part (live_from c) MEMORY xs)).state) where
       pub show_done : outcome xs (Shown height state) ≡ the_outcome
       unfolding outcome shown show_questions
-      show_done = (answered xs _ n asked refl xs (Shown height state) (shown (view xs) c) (λ m y. absurd (let y : ◌≡◌ {A = ℕ} 0 1 = cc in omega arith)) z
+      show_done = (answered xs _ n asked refl xs (Shown height state) (shown (view xs) c) (λ m y. cc) z
           (rw (is-height, is_state, ← live_at xs c chare_in))).gives

@@ -1,36 +1,31 @@
 -- The targets of a machine's chares dropped, one chare after the other.
-use Rattle.std.specs.Prelude.{◌≡◌, refl, cond, List, ℕ, ◌+◌, ◌≤◌, length}
-use Rattle.std.proofs.Common.{sym, ap, ◌∙◌, arith, ne_eqb}
-use Rattle.lists.specs.{Tests.either, Map.upd}
+use Rattle.std.specs.Prelude.{◌≡◌, refl, true, false, List, ℕ, ◌+◌, ◌<◌, ◌≤◌, length, set}
+use Rattle.std.proofs.Common.{sym, ap, ◌∙◌, arith}
 use Rattle.arrays.specs.ArrayMap.{map_beyond}
 use Rattle.protocol.specs.Parts.{State, on, at_home}
 use Rattle.protocol.specs.Setters.{with_status}
 use Rattle.words.specs.Part.{part, part_length}
-use Rattle.head.specs.{Head.{TARGET, target_of}, HeadLaws.home_desk}
-use Rattle.store.specs.{Places.STORE, View.view, Visits.{chosen, visited, visit_none, visit_hit, visit_miss, visit_all}}
-
--- the target of chare c, if it is on machine p
-unfoldable pub dropped : State → ℕ → ℕ → State
-dropped s p c = cond (on s.job p c) (with_status s s.status (upd c 0 s.target)) s
+use Rattle.head.specs.Head.{TARGET, job_of, target_of}
+use Rattle.store.specs.{Places.STORE, View.view, ViewLaws.target_set, Visits.{chosen, visited, visit_hit, visit_miss, visit_all}}
 
 -- the targets of the chares below c
 abbrev pub dropped_to : State → ℕ → ℕ → State
 dropped_to s p c = with_status s s.status (visited (on s.job p) (λ _. 0) s.target c)
 
-pub dropped_more : (s : State) (p c : ℕ) → dropped (dropped_to s p c) p c ≡ dropped_to s p (c + 1)
-unfolding dropped
-dropped_more s p c = either (on s.job p c)
-    (λ e. rw e (ap (with_status s s.status) (visit_hit _ _ _ c e 0 refl)))
-    (λ e. rw e (ap (with_status s s.status) (visit_miss _ _ _ c e)))
+-- ---- on the store: xs at the start, ys as the loop finds it
+module _ (xs : List ℕ) (p k : ℕ) (ys : List ℕ) (inv : view ys ≡ dropped_to (view xs) p k) where
+  here_is : on (view xs).job p k ≡ on (job_of ys) p k
+  unfolding view
+  here_is = ap (λ t. on t.job p k) (sym inv)
 
-module _ (xs : List ℕ) (p : ℕ) where
-  -- 0 is the desk's, and on no machine
-  pub dropped_start : 1 ≤ p → view xs ≡ dropped_to (view xs) p 1
-  unfolding on view
-  dropped_start h = ap (with_status (view xs) (view xs).status)
-      (visit_none _ _ _ ∙ visit_miss _ _ _ 0 (rw (home_desk xs) (ne_eqb 0 p (λ (q : 0 ≡ p). omega arith))))
+  pub drop_miss : on (job_of ys) p k ≡ false → view ys ≡ dropped_to (view xs) p (k + 1)
+  drop_miss e = inv ∙ ap (with_status (view xs) (view xs).status) (visit_miss _ _ _ k (here_is ∙ e))
 
-  pub dropped_end : length xs ≡ STORE → (c : ℕ) → 13 ≤ c → dropped_to (view xs) p c ≡ with_status (view xs) (view xs).status (at_home (view xs).job p (λ c t. 0) (view xs).target)
+  pub drop_hit : on (job_of ys) p k ≡ true → length ys ≡ STORE → k < 13 → view (set ys (TARGET + k) 0) ≡ dropped_to (view xs) p (k + 1)
+  drop_hit e size h =
+      target_set ys size 0 k h ∙ rw inv (ap (with_status (view xs) (view xs).status) (visit_hit _ _ _ k (here_is ∙ e) 0 refl))
+
+  pub drop_end : length xs ≡ STORE → 13 ≤ k → view ys ≡ with_status (view xs) (view xs).status (at_home (view xs).job p (λ c t. 0) (view xs).target)
   unfolding view target_of at_home chosen
-  dropped_end size c h = ap (with_status (view xs) (view xs).status)
-      (visit_all _ _ _ c 13 h (λ j g. sym (map_beyond 0 (part TARGET 13 xs) j (omega (arith, part_length TARGET 13 xs (omega arith))))))
+  drop_end size h = inv ∙ ap (with_status (view xs) (view xs).status)
+      (visit_all _ _ _ k 13 h (λ j g. sym (map_beyond 0 (part TARGET 13 xs) j (omega (arith, part_length TARGET 13 xs (omega arith))))))

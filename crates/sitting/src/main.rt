@@ -1,27 +1,20 @@
 // Frames from standard input, answers to standard output, in constant memory.
 #![tactic(auto)]
 
-ghost use Rattle.std.specs.Prelude.{◌≡◌, ◌<◌, ◌≤◌, ◌^◌, pos, negsuc, length, IfOk, MatchResult};
 ghost use Rattle.store.specs.View.{view};
 ghost use Rattle.transcript.specs.View.{reading, Ending};
-ghost use Rattle.sitting.specs.Turns.{Answered, Turned, Played, clamp_len};
+ghost use Rattle.sitting.specs.Turns.{Answered, Turned, Played, len_of};
 
-use std::io;
 use std::io::{Read, Stdin, Stdout};
+use std::ops::ControlFlow;
 use store::STORE;
-use transcript::{Ended, LINE};
+use transcript::{LINE, NoRoom};
 
 // How many bytes the buffer of a read has, and the buffer for answers.
 const PIECE: usize = 65536;
 
-// How many bytes of the line under way there are, and whether the input goes on.
-#[derive(Clone, Copy)]
-struct Session {
-    len: usize,
-    more: bool,
-}
-
-// Feeds a piece of the input and writes the answers, as often as the buffer is full.
+// Feeds a piece of the input and writes the answers, as often as the buffer is full. How many bytes of the line under way there are then,
+// and whether the input goes on. The place moves by as many bytes as were taken: there is nothing to iterate over.
 fn answer(
     stdout: Stdout,
     s: &mut [u64; STORE],
@@ -29,8 +22,8 @@ fn answer(
     n: usize,
     piece: &[u8],
     out: &mut [u8],
-) -> Session
-    ensures { Answered (reading s.old line.old n) piece.now result (reading s.new line.new result.len) }
+) -> ControlFlow<usize, usize>
+    ensures { Answered (reading s.old line.old n) piece.now result (reading s.new line.new (len_of result)) }
 {
     let mut len = n;
     let mut at = 0;
@@ -39,14 +32,14 @@ fn answer(
         len = f.len;
         let written = f.written;
         if stdout.write_all(&out[..written]).is_err() {
-            return Session { len, more: false };
+            return ControlFlow::Break(len);
         }
         if f.taken == 0 {
-            return Session { len, more: false };
+            return ControlFlow::Break(len);
         }
         at += f.taken;
     }
-    Session { len, more: true }
+    ControlFlow::Continue(len)
 }
 
 // Answers a last line that has no newline.
@@ -56,69 +49,40 @@ fn end(
     line: &mut [u8; LINE],
     n: usize,
     out: &mut [u8],
-) -> Ended
+) -> Result<usize, NoRoom>
     ensures { Ending (reading s.old line.old n) n out.old result s.new line.new out.new }
 {
     let e = transcript::finish(s, line, n, out);
-    let written = e.written;
+    let written = e.unwrap_or(0);
     let _ = stdout.write_all(&out[..written]);
     e
 }
 
-// What a read gave, as one number: how many bytes were read, or below 0 where it failed.
-fn number(got: io::Result<usize>) -> isize
-    requires { IfOk got (λ n. n < 2 ^ 63) }
-    ensures { MatchResult got (λ n. result ≡ pos n) (λ _. result ≡ negsuc 0) }
-{
-    match got {
-        Ok(n) => n as isize,
-        Err(_) => -1,
-    }
-}
-
-// How many bytes of the buffer that number stands for: none where the read failed, and never more than there are.
-fn count(got: isize, buf: &[u8]) -> usize
-    ensures in_bounds { result ≤ length buf.now }
-    ensures value { result ≡ clamp_len got (length buf.now) }
-{
-    if got > 0 {
-        (got as usize).min(buf.len())
-    } else {
-        0
-    }
-}
-
-// What a read gave goes to the reader: `got` bytes at the front of the input buffer.
+// What a read gave goes to the reader: that many bytes at the front of the input buffer, and never more than it has; none where it failed.
 fn turn(
     stdout: Stdout,
     s: &mut [u64; STORE],
     line: &mut [u8; LINE],
     n: usize,
     input: &[u8],
-    got: isize,
+    got: Option<usize>,
     out: &mut [u8],
-) -> Session
+) -> ControlFlow<usize, usize>
     ensures { Turned (reading s.old line.old n) n input.now out.old got result s.new line.new out.new }
 {
-    if got < 0 {
-        return Session {
-            len: n,
-            more: false,
-        };
+    let Some(given) = got else {
+        return ControlFlow::Break(n);
+    };
+    if given == 0 {
+        let _ = end(stdout, s, line, n, out);
+        return ControlFlow::Break(n);
     }
-    if got == 0 {
-        end(stdout, s, line, n, out);
-        return Session {
-            len: n,
-            more: false,
-        };
-    }
-    let k = count(got, input);
+    let k = given.min(input.len());
     answer(stdout, s, line, n, &input[..k], out)
 }
 
 // Reads until the input ends, or a read or a write fails. A proved loop has to end, and nothing says that an input does: the turns are
-// counted down from a number that no run uses up.
+// counted, to a number that no run reaches.
 fn play(
     mut stdin: Stdin,
     stdout: Stdout,
@@ -130,14 +94,12 @@ fn play(
     ensures { Played (reading s.old line.old 0) (view s.new) }
 {
     let mut len = 0;
-    let mut more = true;
-    let mut turns = u64::MAX;
-    while turns > 0 && more {
-        let got = number(stdin.read(input));
-        let t = turn(stdout, s, line, len, input, got, out);
-        len = t.len;
-        more = t.more;
-        turns -= 1;
+    for _ in 0..u64::MAX {
+        let got = stdin.read(input).ok();
+        match turn(stdout, s, line, len, input, got, out) {
+            ControlFlow::Continue(n) => len = n,
+            ControlFlow::Break(_) => return,
+        }
     }
 }
 

@@ -15,7 +15,8 @@ const PIECE: usize = 65536;
 // How many bytes the name of a list may have.
 const NAME: usize = 4096;
 
-// Reads until the buffer is full, the file ends or a read fails; how many bytes stand at the front of the buffer.
+// Reads until the buffer is full, the file ends or a read fails; how many bytes stand at the front of the buffer. The place moves by as many
+// bytes as a read gave: there is nothing to iterate over, and the library's `read_exact` does not say how many there are at the end.
 fn read_full(file: &mut File, buf: &mut [u8]) -> usize
     ensures { result ≤ length buf.new }
 {
@@ -42,8 +43,7 @@ fn list(rt: &HostRuntime, name: &str) {
     let mut input = [0u8; PIECE];
     let n = read_full(&mut file, &mut input);
     let mut out = [0u8; PIECE];
-    let e = transcript::whole(&input[..n], &mut out);
-    let written = e.written;
+    let written = transcript::whole(&input[..n], &mut out).unwrap_or_else(|no| no.written);
     let _ = rt.write_all(name.as_bytes());
     let _ = rt.write_all(b"\n");
     let _ = rt.write_all(&out[..written]);

@@ -1,9 +1,9 @@
 -- A part of the store put anew changes that part of the view, and no other. All arithmetic on places is here.
-use Rattle.std.specs.Prelude.{◌≡◌, refl, Bool, List, ℕ, ◌+◌, ◌-◌, ◌<◌, eqb, length, set}
-use Rattle.std.proofs.Common.{sym, ap, ◌∙◌, inl, arith}
+use Rattle.std.specs.Prelude.{◌≡◌, refl, Bool, List, ℕ, ◌+◌, ◌-◌, ◌<◌, ◌≤◌, eqb, length, set}
+use Rattle.std.proofs.Common.{sym, ap, ◌∙◌, arith}
 use Rattle.lists.specs.Map.{upd}
 use Rattle.protocol.specs.{declared.Status.Status, Parts.{Job, State, Memory}, Setters.{with_lost, with_status, with_memory, with_copies, with_notes, with_wire}}
-use Rattle.words.specs.{Part.{part, put, put_length, part_length, part_put, part_behind}, PartSet.part_set_before, Copy.Apart}
+use Rattle.words.specs.{Part.{part, put, put_length, part_length, part_put, part_behind}, PartSet.part_set_before}
 use Rattle.words.specs.{Slots.{slots, slot_here, slots_before, slots_behind, slots_put, slots_set}}
 use Rattle.head.specs.{Head.{HEAD, LOST, STATUS, HELD, TARGET, job_of, lost_of, status_of, held_of, target_of, as_status}, Kept.{Says, head_kept, head_put}}
 use Rattle.head.specs.{Sets.{over, set_lost, set_status, set_held, set_target}}
@@ -24,8 +24,9 @@ with_head s h = record { job = job_of h; lost = lost_of h; status = status_of h;
 pub span : (c : ℕ) → (live_from c + MEMORY) - live_from c ≡ MEMORY
 span c = omega arith
 
-pub apart : (c : ℕ) → c < 13 → Apart (live_from c) (copy_from c) MEMORY
-apart c h = inl (omega arith)
+-- a chare's memory and its copy do not meet
+pub apart : (c : ℕ) → c < 13 → live_from c + MEMORY ≤ copy_from c
+apart c h = omega arith
 
 module _ (xs : List ℕ) where
   pub wire_at : (view xs).wire ≡ packets (part WIRE PACKETS xs)
@@ -83,9 +84,6 @@ module _ (xs : List ℕ) (size : length xs ≡ STORE) (w : ℕ) where
 module _ (xs : List ℕ) (size : length xs ≡ STORE) where
   -- ---- the head
   module _ (ys : List ℕ) (long : length ys ≡ HEAD) where
-    pub head_length : length (put 0 HEAD xs ys) ≡ STORE
-    head_length = put_length 0 HEAD xs ys (omega arith) long ∙ size
-
     pub whole_head_put : view (put 0 HEAD xs ys) ≡ with_head (view xs) ys
     unfolding view
     whole_head_put =

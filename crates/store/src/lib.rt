@@ -1,8 +1,7 @@
 // The whole state of a sitting in one lent store of words.
 #![tactic(auto)]
 
-ghost use Rattle.std.specs.Prelude.{◌≡◌, ◌<◌, length};
-ghost use Rattle.store.specs.Places.{STORE};
+ghost use Rattle.std.specs.Prelude.{◌≡◌, ◌<◌};
 ghost use Rattle.store.specs.View.{view};
 
 use head::HEAD;
@@ -24,12 +23,10 @@ pub const PACKETS: usize = 129;
 pub const STORE: usize = WIRE + PACKETS;
 
 // The last SN of a to b.
-pub fn last_sn(s: &[u64], a: u8, b: u8) -> u16
-    requires s_len { length s.now ≡ STORE }
-    requires a_bound { a < 13 }
+pub fn last_sn(s: &[u64; STORE], a: u8, b: u8) -> u16
+    requires { a < 13 }
     ensures { result ≡ ((view s.now).live a).sn b }
 {
     let x = LIVE + (a as usize) * MEMORY;
-    let e = x + MEMORY;
-    memory::sn(&s[x..e], b)
+    memory::sn(&s[x..x + MEMORY], b)
 }

@@ -1,7 +1,7 @@
 -- One word as an entry: its fields, its name, and what changes of it fit a word again.
-use Rattle.std.specs.Prelude.{◌≡◌, refl, Bool, true, false, ℕ, ◌+◌, ◌*◌, ◌/◌, ◌%◌, ◌<◌, eqb, ltb}
+use Rattle.std.specs.Prelude.{◌≡◌, refl, Bool, true, false, ℕ, ◌+◌, ◌*◌, ◌/◌, ◌%◌, ◌<◌, eqb}
 use Rattle.std.proofs.Common.{◌∙◌, ap, mod-eq_of_lt}
-use Rattle.protocol.specs.{declared.Entry.Entry, Tickets.{for_message, fill, mark_noted}, Checkpoint.above_height}
+use Rattle.protocol.specs.{declared.Entry.Entry, Tickets.{for_message, fill, mark_noted}}
 use Rattle.words.specs.{Fields.bit, Rows.named}
 use Rattle.item.specs.Item.{item_of, clipped, peer_small, hops_small, by_name as item-name}
 use Rattle.tickets.specs.Table.{entry_of, as_entry, fitted, packed}
@@ -46,8 +46,3 @@ packed_fill v h w = packed_says (fill v h (entry_of w)) ∙ unfold fitted fill i
 
 pub packed_note : (w : ℕ) → as_entry (packed (mark_noted (entry_of w))) ≡ mark_noted (entry_of w)
 packed_note w = packed_says (mark_noted (entry_of w)) ∙ unfold fitted mark_noted entry_of as_entry in rw (mod-eq_of_lt (peer_small w), mod-eq_of_lt (hops_small w))
-
--- above the height or not, by the TN read from the word
-pub above_is : (w h t : ℕ) → t ≡ (item_of w).tn → above_height h (entry_of w) ≡ ltb h t
-unfolding above_height entry_of as_entry
-above_is w h t e = rw e

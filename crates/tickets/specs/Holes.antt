@@ -1,11 +1,13 @@
--- The highest TN as a loop gathers it, and the lowest hole as a loop seeks it.
-use Rattle.std.specs.Prelude.{◌≡◌, cond, List, [], ◌∷◌, ℕ, suc, zero, ◌+◌, ◌-◌, ◌<◌, ◌≤◌, max, length, get_or, drop}
-use Rattle.std.proofs.Common.{sym, arith, add-one}
+-- The highest TN as it is gathered word by word, and the lowest hole as it is sought.
+use Rattle.std.specs.Prelude.{◌≡◌, refl, not, List, [], ◌∷◌, map, ℕ, suc, zero, ◌+◌, ◌-◌, ◌<◌, ◌≤◌, max, Option, None, Some}
+use Rattle.std.specs.List.{fold, find, range_with_len}
+use Rattle.std.specs.Option.{option_map}
+use Rattle.std.proofs.Common.{sym, ap, ◌∙◌, arith, add-one}
 use Rattle.std.proofs.Math.Option.{some, none}
-use Rattle.lists.specs.{Tests.either, Lists.anyb}
+use Rattle.lists.specs.{Tests.either, Lists.anyb, Options.maybe}
 use Rattle.protocol.specs.{declared.Entry.Entry, Tickets.{has_tn, highest, first_free, lowest_hole}}
 use Rattle.words.specs.Rows.{row}
-use Rattle.item.specs.{Item.item_of, Held.held_next}
+use Rattle.item.specs.Item.{item_of}
 use Rattle.tickets.specs.Table.{entry_of, as_entry, entries}
 
 highest_max : (a h : ℕ) (l : List Entry) → max a (highest h l) ≡ highest (max h a) l
@@ -13,25 +15,34 @@ unfolding highest
 highest_max a h [] = omega arith
 highest_max a h (e ∷ l) = omega (arith, highest_max a h l)
 
--- i entries are passed, and h is gathered; the next has the TN t
-pub highest_next : (ws : List ℕ) (i h t m : ℕ) → i < length (row ws) → t ≡ (item_of (get_or ws (i + 1) 0)).tn → m ≡ max h t →
-    highest h (drop i (entries ws)) ≡ highest m (drop (i + 1) (entries ws))
+-- the TNs of the words ns of a table, gathered one after the other
+pub highest_fold : (ws ns : List ℕ) (h : ℕ) → ns ≡ row ws → fold (λ a w. max a (item_of w).tn) h ns ≡ highest h (entries ws)
 unfolding entries entry_of as_entry highest
-highest_next ws i h t m g e d = rw (held_next entry_of ws i g, ← e, d) (highest_max t h (drop (i + 1) (entries ws)))
+highest_fold ws ns h e = go ns h ∙ ap (λ l. highest h (map entry_of l)) e
+  where
+    go : (l : List ℕ) (h : ℕ) → fold (λ a w. max a (item_of w).tn) h l ≡ highest h (map entry_of l)
+    go [] h = refl
+    go (w ∷ l) h = go l (max h (item_of w).tn) ∙ sym (highest_max (item_of w).tn h (map entry_of l))
 
--- ---- the lowest hole, sought from n on
-pub hole_start : (height top : ℕ) (l : List Entry) → lowest_hole height top l ≡ first_free (top - (height + 1)) (height + 1) l
-unfolding lowest_hole
-hole_start height top l = let e : top - height - 1 ≡ top - (height + 1) = omega arith in rw e
+-- ---- the lowest hole
+-- no number is left
+pub no_hole : (height top : ℕ) (l : List Entry) → top ≤ height → lowest_hole height top l ≡ none
+unfolding lowest_hole first_free
+no_hole height top l h = let f : top - height - 1 ≡ 0 = omega arith in rw f
 
-module _ (top n : ℕ) (l : List Entry) where
-  pub hole_next : n < top → first_free (top - n) n l ≡ cond (anyb (has_tn n) l) (first_free (top - (n + 1)) (n + 1) l) (some n)
-  unfolding first_free
-  hole_next h = let f : top - n ≡ suc (top - (n + 1)) = omega arith in rw (f, add-one n)
+-- the first of the numbers between that no entry has
+pub hole_found : (height top : ℕ) (l : List Entry) (o : Option ℕ) → option_map (λ t. t) o ≡ find (λ t. not (anyb (has_tn t) l)) (range_with_len (height + 1) (top - (height + 1))) →
+    maybe o ≡ lowest_hole height top l
+unfolding lowest_hole first_free
+hole_found height top l o e = let f : top - height - 1 ≡ top - (height + 1) = omega arith in rw (f, sym (same o) ∙ e) (go (top - (height + 1)) (height + 1))
+  where
+    same : (o : Option ℕ) → option_map (λ t. t) o ≡ o
+    same None = refl
+    same (Some t) = refl
 
-  pub no_hole : top ≤ n → first_free (top - n) n l ≡ none
-  unfolding first_free
-  no_hole h = let f : top - n ≡ 0 = omega arith in rw f
+    go : (k t : ℕ) → maybe (find (λ t. not (anyb (has_tn t) l)) (range_with_len t k)) ≡ first_free k t l
+    go zero t = refl
+    go (suc k) t = either (anyb (has_tn t) l) (λ q. rw (q, add-one t) (go k (suc t))) (λ q. rw q)
 
 free_from : (k t : ℕ) (l : List Entry) {x : ℕ} → first_free k t l ≡ some x → t ≤ x
 unfolding first_free

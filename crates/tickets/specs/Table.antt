@@ -1,13 +1,10 @@
 -- A table entry as an item of a row: the peer is the sender, the lower flag is received, the upper one noted. A table is a row of them.
 use Rattle.std.specs.Prelude.{◌≡◌, Bool, cond, List, map, ℕ, ◌+◌, ◌-◌, ◌*◌, ◌/◌, ◌%◌, eqb, leb, length}
-use Rattle.std.proofs.Math.Option.{Option, some, none}
 use Rattle.lists.specs.Lists.{anyb}
 use Rattle.arrays.specs.Front.{push}
 use Rattle.protocol.specs.{declared.Entry.Entry, Tickets.{for_message, unreceived}, Restart.enter}
 use Rattle.item.specs.{declared.Item.Item, Item.{item_of, items}}
 use Rattle.words.specs.{Fields.bit, Rows.row, Becomes.Becomes}
-use Rattle.tickets.specs.{declared.FoundEntry.FoundEntry, declared.FoundEntry.TheVariants.{Nothing as NoEntry, At as EntryAt}, declared.FoundHole.FoundHole}
-use Rattle.tickets.specs.{declared.FoundHole.TheVariants.{Nothing as NoHole, At as HoleAt}}
 
 unfoldable pub as_entry : Item → Entry
 as_entry x = record { sender = x.peer; sn = x.sn; tn = x.tn; received = eqb (x.flags % 2) 1; noted = eqb (x.flags / 2) 1; value = x.value; hops = x.hops }
@@ -25,14 +22,6 @@ packed e = record { sn = e.sn; peer = e.sender % 16; owner = 0; kind = 0; tn = e
 
 unfoldable pub entries : List ℕ → List Entry
 entries ws = map entry_of (row ws)
-
-unfoldable pub found_entry : FoundEntry → Option Entry
-found_entry NoEntry = none
-found_entry (EntryAt e) = some e
-
-unfoldable pub found_hole : FoundHole → Option ℕ
-found_hole NoHole = none
-found_hole (HoleAt t) = some t
 
 -- a ticket is entered where the table has room for what it then holds; else the table stays
 pub record Entering (before : List ℕ) (s n tn : ℕ) (after : List ℕ) (r : Bool) : Type 0 where

@@ -1,31 +1,22 @@
 // A receiver's ticket table: a row of words, one an entry, lent and changed in place. Every function takes a slice of any length.
 #![tactic(auto)]
 
-ghost use Rattle.std.specs.Prelude.{◌≡◌, map, ◌-◌, ◌%◌, length, get_or};
+ghost use Rattle.std.specs.Prelude.{◌≡◌, map, ◌-◌, ◌%◌, length, get_or, is_ok};
 ghost use Rattle.lists.specs.Lists.{anyb, keep, find as first, change1};
+ghost use Rattle.lists.specs.Options.{maybe};
 ghost use Rattle.arrays.specs.Front.{push as pushed};
 ghost use Rattle.protocol.specs.Tickets.{for_message, entry, fill as fill-in, filled, mark_noted, unreceived, has_tn, highest as highest-of, lowest_hole, next_tn};
 ghost use Rattle.protocol.specs.Checkpoint.{above_height};
 ghost use Rattle.protocol.specs.Restart.{below_hole};
 ghost use Rattle.words.specs.Becomes.{Becomes};
 ghost use Rattle.item.specs.Item.{item_of, items};
-ghost use Rattle.tickets.specs.Table.{as_entry, entry_of, fitted, packed, entries, found_entry, found_hole, Entering};
+ghost use Rattle.tickets.specs.Table.{as_entry, entry_of, fitted, packed, entries, Entering};
 
 use item::Item;
 use protocol::Entry;
+use words::Full;
 
-#[derive(Clone, Copy)]
-pub enum FoundEntry {
-    Nothing,
-    At(Entry),
-}
-
-#[derive(Clone, Copy)]
-pub enum FoundHole {
-    Nothing,
-    At(u16),
-}
-
+// `Entry` and `Item` are types of crates below, so no `From` can be written here: `pack` and `unpack` are both ways.
 fn pack(e: Entry) -> u64
     ensures { item_of result ≡ packed e }
 {
@@ -42,7 +33,8 @@ fn pack(e: Entry) -> u64
     })
 }
 
-fn unpack(w: u64) -> Entry
+// The entry that a word means.
+pub fn unpack(w: u64) -> Entry
     ensures { result ≡ entry_of w }
 {
     let x = item::unpack(w);
@@ -57,6 +49,7 @@ fn unpack(w: u64) -> Entry
     }
 }
 
+// One call of `words`, as `push` and the like: the contract says it of what the words mean, and callers' laws speak of that.
 pub fn count(ws: &[u64]) -> usize
     ensures { result ≡ length (entries ws.now) }
 {
@@ -71,30 +64,22 @@ pub fn at(ws: &[u64], i: usize) -> Entry
 }
 
 // The first entry for a sender and an SN.
-pub fn find(ws: &[u64], sender: u8, sn: u16) -> FoundEntry
-    ensures { found_entry result ≡ entry (entries ws.now) sender sn }
+pub fn find(ws: &[u64], sender: u8, sn: u16) -> Option<Entry>
+    ensures { maybe result ≡ entry (entries ws.now) sender sn }
 {
-    let i = words::seek(ws, sender, sn);
-    if i < words::count(ws) {
-        return FoundEntry::At(unpack(words::read(ws, i)));
-    }
-    FoundEntry::Nothing
+    let i = words::seek(ws, sender, sn)?;
+    Some(at(ws, i))
 }
 
 // The first entry with a TN.
-pub fn find_tn(ws: &[u64], tn: u16) -> FoundEntry
-    ensures { found_entry result ≡ first (has_tn tn) (entries ws.now) }
+pub fn find_tn(ws: &[u64], tn: u16) -> Option<Entry>
+    ensures { maybe result ≡ first (has_tn tn) (entries ws.now) }
 {
-    let n = words::count(ws);
-    let mut i = 0;
-    while i < n {
-        let w = ws[i + 1];
-        if item::tn(w) == tn {
-            return FoundEntry::At(unpack(w));
-        }
-        i += 1;
-    }
-    FoundEntry::Nothing
+    words::items(ws)
+        .iter()
+        .copied()
+        .find(|&w| item::tn(w) == tn)
+        .map(unpack)
 }
 
 // One more entry at the end; a full table stays.
@@ -122,20 +107,19 @@ pub fn enter(ws: &mut [u64], sender: u8, sn: u16, tn: u16)
     push(ws, e);
 }
 
-// The same unless the table has the sender and SN already. Whether it then has room for all; if not, it stays.
-pub fn enter_once(ws: &mut [u64], sender: u8, sn: u16, tn: u16) -> bool
-    ensures { Entering ws.old (sender % 16) sn tn ws.new result }
+// The same unless the table has the sender and SN already; without room for it the table stays.
+pub fn enter_once(ws: &mut [u64], sender: u8, sn: u16, tn: u16) -> Result<(), Full>
+    ensures { Entering ws.old (sender % 16) sn tn ws.new (is_ok result) }
 {
     let s = sender % 16;
-    let n = words::count(ws);
-    if words::seek(ws, s, sn) < n {
-        return true;
+    if words::seek(ws, s, sn).is_some() {
+        return Ok(());
     }
-    if ws.len() <= n + 1 {
-        return false;
+    if ws.len() <= words::count(ws) + 1 {
+        return Err(Full);
     }
     enter(ws, s, sn, tn);
-    true
+    Ok(())
 }
 
 // The first entry for a sender and an SN becomes received, with the message's value and hops.
@@ -143,19 +127,14 @@ pub fn fill(ws: &mut [u64], sender: u8, sn: u16, value: u16, hops: u8)
     ensures row { Becomes entries ws.old ws.new (filled sender sn value (hops % 8) (entries ws.old)) }
     ensures words { items ws.new ≡ change1 (λ x. for_message sender sn (as_entry x)) (λ x. packed (fill-in value hops (as_entry x))) (items ws.old) }
 {
-    let i = words::seek(ws, sender, sn);
-    if i < words::count(ws) {
-        let e = unpack(words::read(ws, i));
-        let x = Entry {
-            sender: e.sender,
-            sn: e.sn,
-            tn: e.tn,
+    if let Some(i) = words::seek(ws, sender, sn) {
+        let e = Entry {
             received: true,
-            noted: e.noted,
             value,
             hops,
+            ..at(ws, i)
         };
-        words::write(ws, i, pack(x));
+        words::write(ws, i, pack(e));
     }
 }
 
@@ -163,15 +142,9 @@ pub fn fill(ws: &mut [u64], sender: u8, sn: u16, value: u16, hops: u8)
 fn noted(w: u64) -> u64
     ensures { item_of result ≡ packed (mark_noted (entry_of w)) }
 {
-    let e = unpack(w);
     pack(Entry {
-        sender: e.sender,
-        sn: e.sn,
-        tn: e.tn,
-        received: e.received,
         noted: true,
-        value: e.value,
-        hops: e.hops,
+        ..unpack(w)
     })
 }
 
@@ -180,8 +153,7 @@ pub fn note(ws: &mut [u64], sender: u8, sn: u16)
     ensures row { Becomes entries ws.old ws.new (change1 (for_message sender sn) mark_noted (entries ws.old)) }
     ensures words { items ws.new ≡ change1 (λ x. for_message sender sn (as_entry x)) (λ x. packed (mark_noted (as_entry x))) (items ws.old) }
 {
-    let i = words::seek(ws, sender, sn);
-    if i < words::count(ws) {
+    if let Some(i) = words::seek(ws, sender, sn) {
         let w = noted(words::read(ws, i));
         words::write(ws, i, w);
     }
@@ -192,68 +164,32 @@ pub fn prune(ws: &mut [u64], height: u16)
     ensures row { Becomes entries ws.old ws.new (map mark_noted (keep (above_height height) (entries ws.old))) }
     ensures words { items ws.new ≡ map (λ x. packed (mark_noted (as_entry x))) (keep (λ x. above_height height (as_entry x)) (items ws.old)) }
 {
-    let n = words::count(ws);
-    let mut i = 0;
-    let mut k = 0;
-    while i < n {
-        let w = ws[i + 1];
-        i += 1;
-        if height < item::tn(w) {
-            ws[k + 1] = noted(w);
-            k += 1;
-        }
-    }
-    if k < n {
-        ws[0] = k as u64;
-    }
+    item::sift(ws, |w| (height < item::tn(w)).then(|| noted(w)));
 }
 
 // The largest of the height and the TNs.
 pub fn highest(ws: &[u64], height: u16) -> u16
     ensures { result ≡ highest-of height (entries ws.now) }
 {
-    let n = words::count(ws);
-    let mut h = height;
-    let mut i = 0;
-    while i < n {
-        let t = item::tn(ws[i + 1]);
-        i += 1;
-        if h < t {
-            h = t;
-        }
-    }
-    h
+    words::items(ws)
+        .iter()
+        .fold(height, |h, &w| h.max(item::tn(w)))
 }
 
 fn has_tn(ws: &[u64], tn: u16) -> bool
     ensures { result ≡ anyb (has_tn tn) (entries ws.now) }
 {
-    let n = words::count(ws);
-    let mut i = 0;
-    while i < n {
-        if item::tn(ws[i + 1]) == tn {
-            return true;
-        }
-        i += 1;
-    }
-    false
+    words::items(ws).iter().any(|&w| item::tn(w) == tn)
 }
 
 // The lowest TN above the height and below the top that no entry has.
-pub fn lowest_hole(ws: &[u64], height: u16, top: u16) -> FoundHole
-    ensures { found_hole result ≡ lowest_hole height top (entries ws.now) }
+pub fn lowest_hole(ws: &[u64], height: u16, top: u16) -> Option<u16>
+    ensures { maybe result ≡ lowest_hole height top (entries ws.now) }
 {
     if top <= height {
-        return FoundHole::Nothing;
+        return None;
     }
-    let mut n = height + 1;
-    while n < top {
-        if !has_tn(ws, n) {
-            return FoundHole::At(n);
-        }
-        n += 1;
-    }
-    FoundHole::Nothing
+    (height + 1..top).find(|&tn| !has_tn(ws, tn))
 }
 
 // The TN of a new ticket: the lowest hole, if any, else the highest plus 1.
@@ -261,8 +197,8 @@ pub fn next_tn(ws: &[u64], height: u16, top: u16) -> u32
     ensures { result ≡ next_tn height top (entries ws.now) }
 {
     match lowest_hole(ws, height, top) {
-        FoundHole::At(n) => n as u32,
-        FoundHole::Nothing => highest(ws, height) as u32 + 1,
+        Some(tn) => u32::from(tn),
+        None => u32::from(highest(ws, height)) + 1,
     }
 }
 
@@ -271,7 +207,7 @@ pub fn target(ws: &[u64], height: u16, top: u16) -> u16
     ensures { result ≡ below_hole (lowest_hole height top (entries ws.now)) (highest-of height (entries ws.now)) }
 {
     match lowest_hole(ws, height, top) {
-        FoundHole::At(n) => n - 1,
-        FoundHole::Nothing => highest(ws, height),
+        Some(tn) => tn - 1,
+        None => highest(ws, height),
     }
 }

@@ -1,5 +1,5 @@
 -- The end of an input, and a whole input: what the functions yield, from what feeding yields.
-use Rattle.std.specs.Prelude.{true, false, List, [], ◌∷◌, ◌++◌, ◌≡◌, refl, ℕ, zero, suc, ◌+◌, ◌-◌, ◌≤◌, ◌<◌, min, eqb, leb, length, take, drop}
+use Rattle.std.specs.Prelude.{true, false, List, [], ◌∷◌, ◌++◌, ◌≡◌, refl, ℕ, zero, suc, ◌+◌, ◌-◌, ◌≤◌, ◌<◌, min, eqb, leb, length, take, drop, Result, Ok, Err, is_ok}
 use Rattle.std.proofs.Common.{append_assoc, append-nil, sym, ap, ◌∙◌, arith, eq-eqb, ne_eqb, length-append, length-take, length-drop, drop_of_length-le, take_all, drop-drop}
 use Rattle.std.proofs.Math.Seq.{take-length}
 use Rattle.lists.specs.Tests.{either, true_not_false}
@@ -9,7 +9,7 @@ use Rattle.arrays.specs.Copies.{rest_stays, wrote_more, take_min}
 use Rattle.transcript.specs.{Reading.{Reading, LINE, line_room, answer_room, within, beginning, read_byte, byte_output, read_all, output}}
 use Rattle.transcript.specs.{Reading.{is_empty, last_output, takes, finishes, end_state}}
 use Rattle.transcript.specs.{Pieces.{kept_empty, reads_transcript}, Demand.{after, ended_state}}
-use Rattle.transcript.specs.{View.{reading, Feeding, end_output, Ending, enough, whole_output, Transcribed}, declared.Fed.Fed, declared.Ended.Ended}
+use Rattle.transcript.specs.{View.{reading, Feeding, end_output, Ending, enough, whole_output, Transcribed, written_of}, declared.Fed.Fed, declared.NoRoom.NoRoom}
 
 -- ---- what was taken lies within the input, what was written within the buffer
 pub takes_le : (room : ℕ) (r : Reading) (i : List ℕ) → takes room r i ≤ length i
@@ -26,15 +26,15 @@ fits o out room w e f g = omega (arith, ap length f, length-append o (drop w roo
 pub fed_fits : (r : Reading) (input room : List ℕ) (f : Fed) (s line out : List ℕ) → Feeding r input room f s line out → length out ≡ length room → f.written ≤ length room
 fed_fits r input room f s line out h same = fits (output r (take f.taken input)) out room f.written h.written h.bytes same
 
-pub ended_fits : (r : Reading) (n : ℕ) (room : List ℕ) (e : Ended) (s line out : List ℕ) → Ending r n room e s line out → length out ≡ length room → e.written ≤ length room
-ended_fits r n room e s line out h same = fits (end_output (length room) r) out room e.written h.written h.bytes same
+pub ended_fits : (r : Reading) (n : ℕ) (room : List ℕ) (e : Result ℕ NoRoom) (s line out : List ℕ) → Ending r n room e s line out → length out ≡ length room → written_of e ≤ length room
+ended_fits r n room e s line out h same = fits (end_output (length room) r) out room (written_of e) h.written h.bytes same
 
-pub whole_fits : (input room : List ℕ) (e : Ended) (out : List ℕ) → Transcribed input room e out → length out ≡ length room → e.written ≤ length room
-whole_fits input room e out h same = fits (whole_output (length room) input) out room e.written h.written h.bytes same
+pub whole_fits : (input room : List ℕ) (e : Result ℕ NoRoom) (out : List ℕ) → Transcribed input room e out → length out ≡ length room → written_of e ≤ length room
+whole_fits input room e out h same = fits (whole_output (length room) input) out room (written_of e) h.written h.bytes same
 
 -- ---- the end of an input, and the demand with it
-ending : (r : Reading) (n : ℕ) (room : List ℕ) (e : Ended) (s line out : List ℕ) → e.ok ≡ finishes (length room) r → view s ≡ end_state (length room) r
-    → (e.ok ≡ false → reading s line n ≡ r) → e.written ≡ length (end_output (length room) r) → out ≡ end_output (length room) r ++ drop e.written room → Ending r n room e s line out
+ending : (r : Reading) (n : ℕ) (room : List ℕ) (e : Result ℕ NoRoom) (s line out : List ℕ) → is_ok e ≡ finishes (length room) r → view s ≡ end_state (length room) r
+    → (is_ok e ≡ false → reading s line n ≡ r) → written_of e ≡ length (end_output (length room) r) → out ≡ end_output (length room) r ++ drop (written_of e) room → Ending r n room e s line out
 ending r n room e s line out ok state stays written bytes = record {
   ok = ok;
   state = state;
@@ -45,11 +45,11 @@ ending r n room e s line out ok state stays written bytes = record {
 }
 
 -- no line is under way
-pub ends_empty : (s line room : List ℕ) (n : ℕ) → n ≡ 0 → Ending (reading s line n) n room (record { ok = true; written = 0 }) s line room
+pub ends_empty : (s line room : List ℕ) (n : ℕ) → n ≡ 0 → Ending (reading s line n) n room (Ok 0) s line room
 unfolding reading within is_empty finishes end_output end_state last_output
 ends_empty s line room n z =
     let e : is_empty (reading s line n).line ≡ true = kept_empty (view s) (take n line) ∙ rw z in
-    ending (reading s line n) n room (record { ok = true; written = 0 }) s line room (rw e) (rw e) (λ _. refl) (rw e) (rw e)
+    ending (reading s line n) n room (Ok 0) s line room (rw e) (rw e) (λ _. refl) (rw e) (rw e)
 
 pub one_begun : (s line : List ℕ) (n : ℕ) → length line ≡ LINE → (n ≡ 0 → ⊥) → is_empty (reading s line n).line ≡ false
 unfolding reading within line_room is_empty
@@ -84,23 +84,23 @@ same_line s₀ line₀ s line n k a b e =
 
 pub ends_begun : (s₀ line₀ : List ℕ) (n : ℕ) (room : List ℕ) → length line₀ ≡ LINE → is_empty (reading s₀ line₀ n).line ≡ false → (f : Fed) (s line out : List ℕ)
     → length line ≡ LINE → Feeding (reading s₀ line₀ n) (newline ∷ []) room f s line out
-    → Ending (reading s₀ line₀ n) n room (record { ok = eqb f.taken 1; written = f.written }) s line out
-ends_begun s₀ line₀ n room size₀ begun f s line out size h =
+    → (e : Result ℕ NoRoom) → is_ok e ≡ eqb f.taken 1 → written_of e ≡ f.written → Ending (reading s₀ line₀ n) n room e s line out
+ends_begun s₀ line₀ n room size₀ begun f s line out size h e is-ok is-written =
     let r = reading s₀ line₀ n in
     let o : end_output (length room) r ≡ output r (take f.taken (newline ∷ [])) = rw h.taken (taken_output r (length room) begun) in
-    ending r n room (record { ok = eqb f.taken 1; written = f.written }) s line out
-    (rw h.taken (sym (taken_end r (length room) begun)))
+    ending r n room e s line out
+    (is-ok ∙ rw h.taken (sym (taken_end r (length room) begun)))
     (unfold reading within in ap (λ (x : Reading). x.state) h.reader ∙ rw h.taken (sym (taken_state r (length room) begun)))
     (λ no.
-    let none : read_all r (take f.taken (newline ∷ [])) ≡ r = unfold read_all in rw (not_taken r (length room) f.taken h.taken no) in
+    let none : read_all r (take f.taken (newline ∷ [])) ≡ r = unfold read_all in rw (not_taken r (length room) f.taken h.taken (sym is-ok ∙ no)) in
     same_line s₀ line₀ s line n f.len size₀ size (h.len ∙ ap (λ (x : Reading). length x.line) none) ∙ h.reader ∙ none)
-    (rw o h.written)
-    (rw o h.bytes)
+    (is-written ∙ rw o h.written)
+    (rw (is-written, o) h.bytes)
 
 -- ---- a whole input
 -- some of it was not taken
 pub whole_short : (input room : List ℕ) (f : Fed) (s line out : List ℕ) → Feeding beginning input room f s line out → f.taken < length input
-    → Transcribed input room (record { ok = false; written = f.written }) out
+    → Transcribed input room (Err (record { written = f.written })) out
 unfolding enough whole_output
 whole_short input room f s line out h less =
     let n : eqb (takes (length room) beginning input) (length input) ≡ false = ne_eqb (takes (length room) beginning input) (length input) (λ e. omega (arith, h.taken)) in
@@ -124,9 +124,9 @@ module _ (input room out : List ℕ) (w : ℕ) (taken : takes (length room) begi
 
 -- the end was written into the part of the buffer that was left
 pub whole_long : (input room : List ℕ) (f : Fed) (s line out : List ℕ) → Feeding beginning input room f s line out → length input ≤ f.taken
-    → (e : Ended) (t u part : List ℕ) → Ending (reading s line f.len) f.len (take (length out - f.written) (drop f.written out)) e t u part
-    → Transcribed input room (record { ok = e.ok; written = f.written + e.written }) (take f.written out ++ (part ++ drop (length out - f.written) (drop f.written out)))
-whole_long input room f s line out h all e t u part k =
+    → (e : Result ℕ NoRoom) (t u part : List ℕ) → Ending (reading s line f.len) f.len (take (length out - f.written) (drop f.written out)) e t u part
+    → (x : Result ℕ NoRoom) → is_ok x ≡ is_ok e → written_of x ≡ f.written + written_of e → Transcribed input room x (take f.written out ++ (part ++ drop (length out - f.written) (drop f.written out)))
+whole_long input room f s line out h all e t u part k x is-ok is-written =
     let w = f.written in
     let fed-all : take f.taken input ≡ input = take_all f.taken input all in
     let taken : takes (length room) beginning input ≡ length input = omega (arith, h.taken, takes_le (length room) beginning input) in
@@ -137,7 +137,7 @@ whole_long input room f s line out h all e t u part k =
     let g : Ending (read_all beginning input) f.len (drop w out) e t u part = rw (rest, h.reader, fed-all) at k in
     let whole = is_whole input room out w taken written bytes in
     record {
-      ok = g.ok ∙ sym (is_enough input room out w taken written bytes);
-      written = rw (whole, length-append) (omega (arith, written, g.written));
-      bytes = rw (none, append-nil, whole, g.bytes, ← append_assoc, drop-drop) (wrote_more (output beginning input) room out w written bytes _ e.written);
+      ok = is-ok ∙ g.ok ∙ sym (is_enough input room out w taken written bytes);
+      written = is-written ∙ rw (whole, length-append) (omega (arith, written, g.written));
+      bytes = rw (is-written, none, append-nil, whole, g.bytes, ← append_assoc, drop-drop) (wrote_more (output beginning input) room out w written bytes _ (written_of e));
     }

@@ -1,10 +1,10 @@
 -- A store and a line under way as a reader of the definitions, and what the exported functions yield.
-use Rattle.std.specs.Prelude.{Bool, true, false, cond, ◌&&◌, List, [], ◌++◌, ◌≡◌, ℕ, ◌-◌, ◌≤◌, eqb, length, take, drop, replicate}
+use Rattle.std.specs.Prelude.{Bool, true, false, cond, ◌&&◌, List, [], ◌++◌, ◌≡◌, ℕ, ◌-◌, ◌≤◌, eqb, length, take, drop, replicate, Result, Ok, Err, is_ok}
 use Rattle.std.proofs.Common.{sym, ap, ◌∙◌, arith, length-take}
 use Rattle.store.specs.{Places.STORE, View.view}
 use Rattle.opening.specs.Zeros.{zeros_start}
 use Rattle.transcript.specs.{Reading.{Reading, LINE, line_room, within, beginning, read_all, output, last_output, takes, finishes, end_state}, Pieces.read_append}
-use Rattle.transcript.specs.{Feeding.FedSoFar, Demand.{After, after, finished, finished_state}, declared.Fed.Fed, declared.Ended.Ended}
+use Rattle.transcript.specs.{Feeding.FedSoFar, Demand.{After, after, finished, finished_state}, declared.Fed.Fed, declared.NoRoom.NoRoom}
 use Rattle.protocol.specs.{Lines.lines, Step.answers}
 
 -- a store that has read n bytes of the line under way
@@ -50,16 +50,21 @@ fed q r e input room s len line t w out inv f small size =
 unfoldable pub end_output : ℕ → Reading → List ℕ
 end_output room r = cond (finishes room r) (last_output r) []
 
+-- how many bytes were written, with room for all or not
+abbrev pub written_of : Result ℕ NoRoom → ℕ
+written_of (Ok n) = n
+written_of (Err e) = e.written
+
 -- n bytes of the line under way were read before
-pub record Ending (r : Reading) (n : ℕ) (room : List ℕ) (e : Ended) (s line out : List ℕ) : Type 0 where
-  pub ok : e.ok ≡ finishes (length room) r
+pub record Ending (r : Reading) (n : ℕ) (room : List ℕ) (e : Result ℕ NoRoom) (s line out : List ℕ) : Type 0 where
+  pub ok : is_ok e ≡ finishes (length room) r
   pub state : view s ≡ end_state (length room) r
   -- without room the reader is as it was, to go on with
-  pub stays : e.ok ≡ false → reading s line n ≡ r
+  pub stays : is_ok e ≡ false → reading s line n ≡ r
   -- whatever pieces came before: the state of all lines, and demand 3 of it
-  pub demand : e.ok ≡ true → (before : List ℕ) → r ≡ read_all beginning before → After (lines before) (view s)
-  pub written : e.written ≡ length (end_output (length room) r)
-  pub bytes : out ≡ end_output (length room) r ++ drop e.written room
+  pub demand : is_ok e ≡ true → (before : List ℕ) → r ≡ read_all beginning before → After (lines before) (view s)
+  pub written : written_of e ≡ length (end_output (length room) r)
+  pub bytes : out ≡ end_output (length room) r ++ drop (written_of e) room
 
 -- a buffer has room for the transcript of a whole input
 unfoldable pub enough : ℕ → List ℕ → Bool
@@ -69,7 +74,7 @@ enough room input = eqb (takes room beginning input) (length input) && finishes 
 unfoldable pub whole_output : ℕ → List ℕ → List ℕ
 whole_output room input = cond (enough room input) (answers input) (output beginning (take (takes room beginning input) input))
 
-pub record Transcribed (input room : List ℕ) (e : Ended) (out : List ℕ) : Type 0 where
-  pub ok : e.ok ≡ enough (length room) input
-  pub written : e.written ≡ length (whole_output (length room) input)
-  pub bytes : out ≡ whole_output (length room) input ++ drop e.written room
+pub record Transcribed (input room : List ℕ) (e : Result ℕ NoRoom) (out : List ℕ) : Type 0 where
+  pub ok : is_ok e ≡ enough (length room) input
+  pub written : written_of e ≡ length (whole_output (length room) input)
+  pub bytes : out ≡ whole_output (length room) input ++ drop (written_of e) room

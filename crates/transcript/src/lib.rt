@@ -4,8 +4,7 @@
 
 ghost use Rattle.std.specs.Prelude.{◌≡◌, ◌++◌, ◌+◌, ◌≤◌, min, length, take};
 ghost use Rattle.arrays.specs.Copies.{put_at};
-ghost use Rattle.store.specs.Places.{STORE};
-ghost use Rattle.transcript.specs.Reading.{printed, answer_room, LINE};
+ghost use Rattle.transcript.specs.Reading.{printed, answer_room};
 ghost use Rattle.transcript.specs.View.{reading, Feeding, Ending, Transcribed};
 
 use protocol::Answer;
@@ -17,7 +16,8 @@ pub const LINE: usize = 2047;
 // The room for an answer's line, its newline included.
 const ANSWER: usize = 16;
 
-// A reader that was fed: what it has of the line under way, how many bytes it took, and how many it wrote.
+// A reader that was fed: what it has of the line under way, how many bytes it took, and how many it wrote. Store, line and count are lent by
+// callers in C, each by its own pointer, so no struct holds a reader.
 #[derive(Clone, Copy)]
 pub struct Fed {
     pub len: usize,
@@ -25,17 +25,10 @@ pub struct Fed {
     pub written: usize,
 }
 
-// Whether there was room for all, and how many bytes were written.
+// The buffer had no room for all answers; how many bytes were written.
 #[derive(Clone, Copy)]
-pub struct Ended {
-    pub ok: bool,
+pub struct NoRoom {
     pub written: usize,
-}
-
-fn least(a: usize, b: usize) -> usize
-    ensures { result ≡ min a b }
-{
-    if a < b { a } else { b }
 }
 
 // Puts a piece behind the first n bytes of a line, as far as there is room; how many there are then.
@@ -44,12 +37,8 @@ fn keep(line: &mut [u8], n: usize, piece: &[u8]) -> usize
     ensures count { result ≡ min (n + length piece.now) (length line.old) }
     ensures bytes { take result line.new ≡ take (length line.old) (take n line.old ++ piece.now) }
 {
-    let k = least(piece.len(), line.len() - n);
-    let mut i = 0;
-    while i < k {
-        line[n + i] = piece[i];
-        i += 1;
-    }
+    let k = piece.len().min(line.len() - n);
+    line[n..n + k].copy_from_slice(&piece[..k]);
     n + k
 }
 
@@ -63,14 +52,19 @@ fn put(out: &mut [u8], at: usize, answer: Answer) -> usize
 }
 
 // Takes bytes of the input while there is room for one more answer in the buffer.
-fn feed_on(s: &mut [u64], line: &mut [u8], n: usize, input: &[u8], out: &mut [u8]) -> Fed
-    requires s_len { length s.old ≡ STORE }
-    requires line_len { length line.old ≡ LINE }
+pub fn feed(
+    s: &mut [u64; STORE],
+    line: &mut [u8; LINE],
+    n: usize,
+    input: &[u8],
+    out: &mut [u8],
+) -> Fed
     ensures { Feeding (reading s.old line.old n) input.now out.old result s.new line.new out.new }
 {
-    let mut len = least(n, line.len());
+    let mut len = n.min(line.len());
     let mut taken = 0;
     let mut written = 0;
+    // A turn is a line, and two tests in the middle end it: no iterator gives that.
     loop {
         if out.len() - written < ANSWER {
             return Fed {
@@ -88,64 +82,51 @@ fn feed_on(s: &mut [u64], line: &mut [u8], n: usize, input: &[u8], out: &mut [u8
                 written,
             };
         }
-        let a = engine::step_on(s, &line[..len]);
+        let a = engine::step(s, &line[..len]);
         written += put(out, written, a);
         taken = end + 1;
         len = 0;
     }
 }
 
-pub fn feed(
+// At the end of the input: what follows the last newline is a line if it is not empty. How many bytes were written.
+pub fn finish(
     s: &mut [u64; STORE],
     line: &mut [u8; LINE],
     n: usize,
-    input: &[u8],
     out: &mut [u8],
-) -> Fed
-    ensures { Feeding (reading s.old line.old n) input.now out.old result s.new line.new out.new }
-{
-    feed_on(s, line, n, input, out)
-}
-
-fn finish_on(s: &mut [u64], line: &mut [u8], n: usize, out: &mut [u8]) -> Ended
-    requires s_len { length s.old ≡ STORE }
-    requires line_len { length line.old ≡ LINE }
+) -> Result<usize, NoRoom>
     ensures { Ending (reading s.old line.old n) n out.old result s.new line.new out.new }
 {
     if n == 0 {
-        return Ended {
-            ok: true,
-            written: 0,
-        };
+        return Ok(0);
     }
-    let f = feed_on(s, line, n, b"\n", out);
-    Ended {
-        ok: f.taken == 1,
-        written: f.written,
+    let Fed { taken, written, .. } = feed(s, line, n, b"\n", out);
+    if taken == 1 {
+        Ok(written)
+    } else {
+        Err(NoRoom { written })
     }
 }
 
-// At the end of the input: what follows the last newline is a line if it is not empty.
-pub fn finish(s: &mut [u64; STORE], line: &mut [u8; LINE], n: usize, out: &mut [u8]) -> Ended
-    ensures { Ending (reading s.old line.old n) n out.old result s.new line.new out.new }
-{
-    finish_on(s, line, n, out)
-}
-
-// A whole input. Where the buffer has no room for all answers, as many lines are answered as surely fit.
-pub fn whole(input: &[u8], out: &mut [u8]) -> Ended
+// A whole input; how many bytes were written. Where the buffer has no room for all answers, as many lines are answered as surely fit.
+pub fn whole(input: &[u8], out: &mut [u8]) -> Result<usize, NoRoom>
     ensures { Transcribed input.now out.old result out.new }
 {
     let mut s = [0u64; STORE];
     let mut line = [0u8; LINE];
-    let f = feed(&mut s, &mut line, 0, input, out);
-    let written = f.written;
-    if f.taken < input.len() {
-        return Ended { ok: false, written };
+    let Fed {
+        len,
+        taken,
+        written,
+    } = feed(&mut s, &mut line, 0, input, out);
+    if taken < input.len() {
+        return Err(NoRoom { written });
     }
-    let e = finish(&mut s, &mut line, f.len, &mut out[written..]);
-    Ended {
-        ok: e.ok,
-        written: written + e.written,
+    match finish(&mut s, &mut line, len, &mut out[written..]) {
+        Ok(more) => Ok(written + more),
+        Err(no) => Err(NoRoom {
+            written: written + no.written,
+        }),
     }
 }

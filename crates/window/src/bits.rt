@@ -4,7 +4,8 @@ ghost use Rattle.lists.specs.Map.{upd};
 ghost use Rattle.protocol.specs.Window.{ones, width};
 ghost use Rattle.window.specs.Bits.{window_bits};
 
-// The lowest bit of `low` is for the SN just above the mark, that of `high` for the SN 64 above that one.
+// Two words and no u128: document 01 wants masks and shifts on a u64. The lowest bit of `low` is for the SN just above the mark, that of
+// `high` for the SN 64 above that one.
 #[derive(Clone, Copy)]
 pub struct Window {
     pub low: u64,
@@ -29,12 +30,12 @@ pub fn set(w: Window, k: u16) -> Window
     if k < 64 {
         Window {
             low: w.low | (1 << k),
-            high: w.high,
+            ..w
         }
     } else {
         Window {
-            low: w.low,
             high: w.high | (1 << (k - 64)),
+            ..w
         }
     }
 }
@@ -43,31 +44,26 @@ pub fn set(w: Window, k: u16) -> Window
 pub fn run(w: Window) -> u32
     ensures { result ≡ ones width (window_bits w) }
 {
-    let ones = u64::trailing_zeros(!w.low);
-    if ones < 64 {
-        return ones;
+    match (!w.low).trailing_zeros() {
+        64 => 64 + (!w.high).trailing_zeros(),
+        ones => ones,
     }
-    64 + u64::trailing_zeros(!w.high)
 }
 
 // The t lowest bits shifted out.
 pub fn shift(w: Window, t: u32) -> Window
     ensures { window_bits result ≡ (λ i. window_bits w (t + i)) }
 {
-    if t == 0 {
-        return w;
-    }
-    if t < 64 {
-        return Window {
+    match t {
+        0 => w,
+        1..=63 => Window {
             low: (w.low >> t) | (w.high << (64 - t)),
             high: w.high >> t,
-        };
-    }
-    if t < 128 {
-        return Window {
+        },
+        64..=127 => Window {
             low: w.high >> (t - 64),
             high: 0,
-        };
+        },
+        _ => Window { low: 0, high: 0 },
     }
-    Window { low: 0, high: 0 }
 }

@@ -6,6 +6,7 @@ pub mod Rows
 pub mod Becomes
 pub mod Mapped
 pub mod Fields
-pub mod Copy
 pub mod Sift
+pub mod Removal
+pub mod Seek
 pub mod Zeros

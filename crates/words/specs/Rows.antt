@@ -1,8 +1,8 @@
 -- A counted row of words: the count, then the items. A count above the room counts as the room.
-use Rattle.std.specs.Prelude.{◌≡◌, refl, Bool, true, false, List, [], ◌∷◌, ◌++◌, ℕ, suc, zero, ◌+◌, ◌-◌, ◌*◌, ◌%◌, ◌≤◌, ◌<◌, min, eqb, length, take, drop, get_or, set}
-use Rattle.std.proofs.Common.{sym, ap, ◌∙◌, append-nil, arith, add-one, length-drop, length-set, drop_of_length-le, get_or-drop, drop-set-lt, get_or-set_same, get_or-set_other, take-take, take_all}
+use Rattle.std.specs.Prelude.{◌≡◌, Bool, List, ◌++◌, ℕ, suc, ◌+◌, ◌-◌, ◌*◌, ◌%◌, ◌≤◌, ◌<◌, min, eqb, length, take, drop, get_or, set}
+use Rattle.std.proofs.Common.{sym, ap, ◌∙◌, append-nil, arith, length-drop, length-set, drop_of_length-le, get_or-drop, drop-set-lt, get_or-set_same, get_or-set_other, take-take, take_all}
 use Rattle.std.proofs.lemmas.List.{drop-set-add}
-use Rattle.arrays.specs.{Front.{push, front_length, front_at, put_at, push_room, no_room, front_beyond}, Place.{place, place_hit, place_miss, place_end}}
+use Rattle.arrays.specs.{Front.{push, front_length, front_at, put_at, push_room, no_room}}
 
 unfoldable pub row : List ℕ → List ℕ
 row ws = take (min (get_or ws 0 0) (length ws - 1)) (drop 1 ws)
@@ -23,18 +23,7 @@ unfoldable pub named : ℕ → ℕ → ℕ → Bool
 named peer sn w = eqb (w % OWNER) (sn + PEER * peer)
 
 module _ {A : Type 0} where
-  -- the one after the gap moves down into it
-  without_move : (l : List A) (j : ℕ) (d : A) → j + 1 < length l → without (j + 1) (set l j (get_or l (j + 1) d)) ≡ without j l
-  unfolding without
-  without_move l j d h = rw add-one (go l j h)
-    where
-      go : (l : List A) (j : ℕ) → j + 1 < length l → without (suc j) (set l j (get_or l (suc j) d)) ≡ without j l
-      go [] j h = absurd (omega arith)
-      go (x ∷ []) j h = absurd (omega arith)
-      go (x ∷ y ∷ l) zero h = refl
-      go (x ∷ y ∷ l) (suc j) h = ap (x ∷◌) (go (y ∷ l) j (omega arith))
-
-  pub without_last : (l : List A) (j : ℕ) → length l ≤ j + 1 → without j l ≡ take j l
+  without_last : (l : List A) (j : ℕ) → length l ≤ j + 1 → without j l ≡ take j l
   unfolding without
   without_last l j h = rw (drop_of_length-le l {i = suc j} (omega arith)) (append-nil (take j l))
 
@@ -55,24 +44,6 @@ module _ (ws : List ℕ) where
   pub row_at : (i : ℕ) → i < length (row ws) → get_or ws (i + 1) 0 ≡ get_or (row ws) i 0
   unfolding row
   row_at i h = sym (item i) ∙ front_at (drop 1 ws) (length ws - 1) (get_or ws 0 0) size i 0 (omega (arith, row_length))
-
-  pub row_beyond : (i : ℕ) → length (row ws) ≤ i → 0 ≡ get_or (row ws) i 0
-  unfolding row
-  row_beyond i h = front_beyond (drop 1 ws) (length ws - 1) (get_or ws 0 0) size i 0 (omega (arith, row_length))
-
-  -- a loop that seeks: i words did not pass
-  module _ (p : ℕ → Bool) (i : ℕ) (inv : place p (row ws) ≡ i + place p (drop i (row ws))) where
-    pub seek_hit : i < length (row ws) → p (get_or ws (i + 1) 0) ≡ true → i ≡ place p (row ws)
-    unfolding row
-    seek_hit h e = place_hit (drop 1 ws) (length ws - 1) (get_or ws 0 0) size p i inv 0 (omega (arith, row_length)) (rw (item i) e)
-
-    pub seek_miss : i < length (row ws) → p (get_or ws (i + 1) 0) ≡ false → place p (row ws) ≡ (i + 1) + place p (drop (i + 1) (row ws))
-    unfolding row
-    seek_miss h e = place_miss (drop 1 ws) (length ws - 1) (get_or ws 0 0) size p i inv 0 (omega (arith, row_length)) (rw (item i) e)
-
-    pub seek_end : length (row ws) ≤ i → i ≡ place p (row ws)
-    unfolding row
-    seek_end h = place_end (drop 1 ws) (length ws - 1) (get_or ws 0 0) size p i inv (omega (arith, row_length))
 
   -- a word is written
   pub row_set : (i x : ℕ) → i < length (row ws) → row (set ws (i + 1) x) ≡ set (row ws) i x
@@ -97,12 +68,6 @@ module _ (ws : List ℕ) where
   pub row_full : (x : ℕ) → length ws ≤ length (row ws) + 1 → row ws ≡ push (length ws - 1) (row ws) x
   unfolding row
   row_full x h = no_room (drop 1 ws) (length ws - 1) (get_or ws 0 0) size x (omega (arith, row_length))
-
-  -- a word less: those behind the gap at j move down
-  pub row_move : (j : ℕ) → j + 1 < length (row ws) → without (j + 1) (row (set ws (j + 1) (get_or ws (j + 2) 0))) ≡ without j (row ws)
-  row_move j h =
-      let e : get_or ws (j + 2) 0 ≡ get_or (row ws) (j + 1) 0 = (let f : j + 1 + 1 ≡ j + 2 = omega arith in rw f at (row_at (j + 1) h)) in
-      rw (e, row_set j _ (omega arith)) (without_move (row ws) j 0 h)
 
   -- only the first j count
   pub row_cut : (j : ℕ) → 0 < length ws → j ≤ length (row ws) → row (set ws 0 j) ≡ take j (row ws)

@@ -1,21 +1,10 @@
 -- Words that are all 0.
-use Rattle.std.specs.Prelude.{◌≡◌, refl, List, [], ◌∷◌, ◌++◌, ℕ, suc, zero, ◌+◌, ◌-◌, ◌≤◌, ◌<◌, length, take, drop, get_or, set, replicate}
-use Rattle.std.proofs.Common.{sym, ap, ◌∙◌, arith, add-one, take-suc-set, take_all}
+use Rattle.std.specs.Prelude.{◌≡◌, refl, List, ◌∷◌, ℕ, suc, zero, ◌+◌, ◌-◌, ◌≤◌, take, drop, get_or, replicate}
+use Rattle.std.proofs.Common.{ap, arith}
 use Rattle.words.specs.Part.{part}
 
 abbrev pub zeros : ℕ → List ℕ
 zeros n = replicate n 0
-
-snoc : (n : ℕ) → zeros n ++ (0 ∷ []) ≡ zeros (suc n)
-snoc zero = refl
-snoc (suc n) = ap (0 ∷◌) (snoc n)
-
--- i words are 0
-pub clear_one : (ws : List ℕ) (i : ℕ) → i < length ws → take i ws ≡ zeros i → take (i + 1) (set ws i 0) ≡ zeros (i + 1)
-clear_one ws i h e = rw (add-one i, take-suc-set ws i 0 h, e) (snoc i)
-
-pub clear_end : (ws : List ℕ) (i n : ℕ) → length ws ≡ n → i ≡ n → take i ws ≡ zeros i → ws ≡ zeros n
-clear_end ws i n size e q = sym (take_all i ws (omega arith)) ∙ q ∙ ap zeros e
 
 pub zero_at : (n i : ℕ) → get_or (zeros n) i 0 ≡ 0
 zero_at zero i = refl

@@ -2,11 +2,10 @@
 // any length. Tables, logs, note lists and the wire are rows; what a word means is theirs.
 #![tactic(auto)]
 
-ghost use Rattle.std.specs.Prelude.{◌≡◌, ◌+◌, ◌-◌, ◌≤◌, length, get_or, set, replicate};
+ghost use Rattle.std.specs.Prelude.{◌≡◌, ◌+◌, ◌-◌, ◌≤◌, ◌<◌, length, get_or, set, replicate, IfSome, unwrap_or};
+ghost use Rattle.words.specs.Part.{part, put};
 ghost use Rattle.arrays.specs.Front.{push as pushed};
 ghost use Rattle.arrays.specs.Place.{place};
-ghost use Rattle.words.specs.Part.{part, put};
-ghost use Rattle.words.specs.Copy.{Apart};
 ghost use Rattle.words.specs.Rows.{row, named, without};
 ghost use Rattle.words.specs.Becomes.{Becomes};
 
@@ -15,45 +14,41 @@ pub const PEER: u64 = 65536;
 
 pub const OWNER: u64 = 16 * PEER;
 
+// A row that has no room for one item more.
+#[derive(Clone, Copy)]
+pub struct Full;
+
 pub fn count(ws: &[u64]) -> usize
     ensures is { result ≡ length (row ws.now) }
     ensures within { result ≤ length ws.now - 1 }
 {
-    if ws.len() == 0 {
-        return 0;
+    match ws.split_first() {
+        Some((&n, room)) => n.min(room.len() as u64) as usize,
+        None => 0,
     }
-    let room = ws.len() - 1;
-    let n = ws[0];
-    if n < room as u64 {
-        return n as usize;
-    }
-    room
+}
+
+// The items, where they stand.
+pub fn items(ws: &[u64]) -> &[u64]
+    ensures { result.now ≡ row ws.now }
+{
+    ws.get(1..count(ws) + 1).unwrap_or(&[])
 }
 
 // The item at i, or 0 past the last.
 pub fn read(ws: &[u64], i: usize) -> u64
     ensures { result ≡ get_or (row ws.now) i 0 }
 {
-    if i < count(ws) {
-        return ws[i + 1];
-    }
-    0
+    items(ws).get(i).copied().unwrap_or(0)
 }
 
-// The place of the first item with this peer and SN, or the count.
-pub fn seek(ws: &[u64], peer: u8, sn: u16) -> usize
-    ensures { result ≡ place (named peer sn) (row ws.now) }
+// The place of the first item with this peer and SN.
+pub fn seek(ws: &[u64], peer: u8, sn: u16) -> Option<usize>
+    ensures is { unwrap_or result (length (row ws.now)) ≡ place (named peer sn) (row ws.now) }
+    ensures within { IfSome result (λ i. i < length (row ws.now)) }
 {
-    let n = count(ws);
     let name = sn as u64 + PEER * (peer as u64);
-    let mut i = 0;
-    while i < n {
-        if ws[i + 1] % OWNER == name {
-            return i;
-        }
-        i += 1;
-    }
-    i
+    items(ws).iter().position(|&w| w % OWNER == name)
 }
 
 // The item at i anew; past the last nothing changes.
@@ -84,33 +79,21 @@ pub fn remove(ws: &mut [u64], at: usize)
     if n <= at {
         return;
     }
-    let mut j = at;
-    while j + 1 < n {
-        ws[j + 1] = ws[j + 2];
-        j += 1;
-    }
-    ws[0] = j as u64;
+    ws.copy_within(at + 2..n + 1, at + 1);
+    ws[0] = (n - 1) as u64;
 }
 
-// Copies n words from one place of a store to another that lies apart from it.
+// Copies n words from one place of a store to another: the library's method, said by the parts of which the store's laws speak.
 pub fn copy(s: &mut [u64], from: usize, to: usize, n: usize)
-    requires { (from + n ≤ length s.old) × (to + n ≤ length s.old) × Apart from to n }
+    requires { (from + n ≤ length s.old) × (to + n ≤ length s.old) }
     ensures { s.new ≡ put to n s.old (part from n s.old) }
 {
-    let mut i = 0;
-    while i < n {
-        s[to + i] = s[from + i];
-        i += 1;
-    }
+    s.copy_within(from..from + n, to);
 }
 
-// Every word 0.
+// Every word 0: the library's method, whose contract asks first whether a clone is the same.
 pub fn clear(ws: &mut [u64])
     ensures { ws.new ≡ replicate (length ws.old) 0 }
 {
-    let mut i = 0;
-    while i < ws.len() {
-        ws[i] = 0;
-        i += 1;
-    }
+    ws.fill(0);
 }

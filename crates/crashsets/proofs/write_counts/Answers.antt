@@ -1,6 +1,6 @@
 -- `write_counts`: f in turn. The invariant: the lines of those passed are written.
-use Rattle.std.specs.Prelude.{◌≡◌, refl, true, List, ℕ, ◌≤◌, get_or}
-use Rattle.std.proofs.Common.{◌∙◌, arith, rules}
+use Rattle.std.specs.Prelude.{◌≡◌, true, List, ℕ, ◌+◌, ◌≤◌, get_or}
+use Rattle.std.proofs.Common.{arith, rules}
 use Rattle.protocol.specs.Job.{machines_of, job_in_range, job_of}
 use Rattle.frames.specs.Decode.{decoded}
 use Rattle.crashsets.specs.{Machines.few, Digits.{total_small, survived_small}}
@@ -13,33 +13,33 @@ unfolding job_of machines_of
 six l m good e = (e, few _ good)
 
 pub loop-f-init : goal.loop-f-init
-loop-f-init c = (refl, search rules, search rules, nothing_yet _ _)
+loop-f-init c = (search rules, nothing_yet _ _)
 
 pub put_line-written-requires : goal.put_line-written-requires
 put_line-written-requires c =
-    let s = six _ _ c.requires.line_value c.byte-m.ensures in
-    let k = c.count-c in
+    let s = six _ _ c.requires.line_value c.byte-machines.ensures in
+    let k = c.count-total in
     let j = job_of (decoded c.args.line.now) in
-    (omega (arith, c.loop-f.invariant.0, c.requires.in_bounds, c.loop-f.invariant.3.fits, s.1), omega (arith, s.1), omega (arith, k.ensures.all, total_small j c.loop-f.f s.1), omega (arith, k.ensures.good, survived_small j c.loop-f.f s.1))
-
-pub overflow_add-f : goal.overflow_add-f
-overflow_add-f c = let s = six _ _ c.requires.line_value c.byte-m.ensures in omega (arith, s.0, s.1)
+    (omega (arith, c.loop-f.auto.out, c.requires.in_bounds, c.loop-f.invariant.1.fits, s.1), omega (arith, s.1), omega (arith, k.ensures.all, total_small j c.loop-f.f s.1), omega (arith, k.ensures.good, survived_small j c.loop-f.f s.1))
 
 pub loop-f-preserved : goal.loop-f-preserved
 loop-f-preserved c =
-    let s = six _ _ c.requires.line_value c.byte-m.ensures in
-    let k = c.count-c in
-    let p = c.put_line-written in (
-      p.auto.out ∙ c.loop-f.invariant.0,
-      search rules,
-      search rules,
-      one_more _ s.1 _ c.loop-f.f _ _ c.loop-f.invariant.3 (omega (arith, s.0)) _ _ _ _ k.ensures.all k.ensures.good p.ensures.end p.ensures.bytes,
-    )
-
-pub shape_of-out : goal.shape_of-out
-shape_of-out c = c.loop-f.invariant.0
+    let s = six _ _ c.requires.line_value c.byte-machines.ensures in
+    let k = c.count-total in
+    let p = c.put_line-written in
+    (search rules, one_more _ s.1 _ c.loop-f.f _ _ c.loop-f.invariant.1 (omega (arith, s.0)) _ _ _ _ k.ensures.all k.ensures.good p.ensures.end p.ensures.bytes)
 
 pub returns : goal.returns
 returns c =
-    let s = six _ _ c.requires.line_value c.byte-m.ensures in
-    all_lines _ s.1 _ _ _ _ c.loop-f.invariant.3 (omega (arith, s.0))
+    let s = six _ _ c.requires.line_value c.byte-machines.ensures in
+    all_lines _ s.1 _ _ _ _ c.loop-f.invariant.1 (omega (arith, s.0))
+
+-- the line of the last f
+pub returns-2 : goal.returns-2
+returns-2 c =
+    let s = six _ _ c.requires.line_value c.byte-machines.ensures in
+    let k = c.count-total in
+    let p = c.put_line-written in
+    all_lines _ s.1 _ (c.loop-f.f + 1) _ _
+    (one_more _ s.1 _ c.loop-f.f _ _ c.loop-f.invariant.1 (omega (arith, s.0)) _ _ _ _ k.ensures.all k.ensures.good p.ensures.end p.ensures.bytes)
+    (omega (arith, s.0))

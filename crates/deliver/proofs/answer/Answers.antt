@@ -11,12 +11,12 @@ gone : (before left : List ℕ) (at : ℕ) → row left ≡ without at (row befo
 unfolding items
 gone before left at e = ap (map item_of) e ∙ map_without item_of at (row before)
 
-pub returns-in-Send : goal.returns-in-Send
+pub returns-in-Some : goal.returns-in-Some
 unfolding answered answered_words
-returns-in-Send c =
+returns-in-Some c =
     let n : length c.leave.new.ws - 1 ≡ 128 = omega arith in
     let on = c.join.ensures.row in
-    rw c.in-Send.is (record {
+    rw c.in-Some.is (record {
       left = c.leave.new.ws;
       off = c.leave.ensures.row;
       on = becomes_as packets on (rw (n, c.leave.ensures.row.items));

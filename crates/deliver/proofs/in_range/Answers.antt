@@ -1,34 +1,48 @@
 -- `in_range` puts its tests one after the other.
-use Rattle.std.proofs.Common.{sym, ◌∙◌, le-leb}
-use Rattle.std.proofs.lemmas.Bool.{lt-leb}
-use Rattle.protocol.specs.Frames.{between}
+use Rattle.std.specs.Prelude.{◌≡◌, ◌≤◌, refl, true, false, ◌<◌, ◌⊎◌}
+use Rattle.std.proofs.Common.{sym, ap, ◌∙◌, ⊎_elim, rules, le-leb}
+use Rattle.std.proofs.lemmas.Result.{err_from_is_err_and}
+use Rattle.lists.specs.Questions.{first_no}
+use Rattle.protocol.specs.{declared.Kind.Kind, declared.Kind.TheVariants.{Ask, Grant, Data, Note, Ack}, Frames.between, Numbers.kind_number}
+use Rattle.frames.specs.Range.{between_low, between_high}
 use Rattle.deliver.specs.Frame.{in_range}
 use Rattle.deliver.proofs.in_range.Goals as goal
+use Rattle.deliver.proofs.in_range.Goals.{else-is_sender-via-then-is_sender+then-is_chare+else-contains, else-is_sender-via-then-is_sender+else-is_chare, else-is_sender-via-else-is_sender}
 
-pub returns-then-kind-lt1 : goal.returns-then-kind-lt1
-unfolding in_range between
-returns-then-kind-lt1 c = rw (lt-leb 1 _ c.if-kind-lt1.true)
+-- a kind's number is one of five
+kind_in : (k : Kind) → between 1 5 (kind_number k) ≡ true
+unfolding between
+kind_in Ask = refl
+kind_in Grant = refl
+kind_in Data = refl
+kind_in Note = refl
+kind_in Ack = refl
 
-pub returns-then-kind-gt5 : goal.returns-then-kind-gt5
-unfolding in_range between
-returns-then-kind-gt5 c = rw (le-leb 1 _ c.if-kind-lt1.false, lt-leb _ 5 c.if-kind-gt5.true)
+pub returns-in_err-kind-clause-asked : goal.returns-in_err-kind-clause-asked
+unfolding first_no in_range
+returns-in_err-kind-clause-asked c =
+    let p = err_from_is_err_and c.from_residual.result c.from_residual.ensures.1 in
+    let out : between 1 5 c.args.kind ≡ false = ⊎_elim (between_low 1 5 c.args.kind) (between_high 1 5 c.args.kind) c.in_err-kind.ensures.1 in
+    rw (p.1, p.2, c.in_err-kind.ensures.0, out)
 
-pub returns-then-not-is_sender : goal.returns-then-not-is_sender
-unfolding in_range between
-returns-then-not-is_sender c =
-    rw (le-leb 1 _ c.if-kind-lt1.false, le-leb _ 5 c.if-kind-gt5.false, sym c.is_sender.ensures ∙ c.if-not-is_sender.true)
+pub returns-then-contains-clause-asked : goal.returns-then-contains-clause-asked
+unfolding first_no in_range
+returns-then-contains-clause-asked c =
+    let kind = ap (between 1 5) (sym c.in_ok-kind.ensures) ∙ kind_in c.in_ok-kind.kind in
+    let low : 1 ≤ c.args.sn = search rules in
+    let high : c.args.sn ≤ 60000 = search rules in
+    let sn : between 1 60000 c.args.sn ≡ true = unfold between in rw (le-leb 1 _ low, le-leb _ 60000 high) in
+    rw (kind, ← c.is_sender.ensures, c.if-is_sender.true, ← c.is_chare.ensures, c.if-is_chare.true, sn)
 
-pub returns-then-not-is_chare : goal.returns-then-not-is_chare
-unfolding in_range between
-returns-then-not-is_chare c =
-    rw (le-leb 1 _ c.if-kind-lt1.false, le-leb _ 5 c.if-kind-gt5.false, sym c.is_sender.ensures ∙ c.if-not-is_sender.false, sym c.is_chare.ensures ∙ c.if-not-is_chare.true)
-
-pub returns-then-sn-lt1 : goal.returns-then-sn-lt1
-unfolding in_range between
-returns-then-sn-lt1 c =
-    rw (le-leb 1 _ c.if-kind-lt1.false, le-leb _ 5 c.if-kind-gt5.false, sym c.is_sender.ensures ∙ c.if-not-is_sender.false, sym c.is_chare.ensures ∙ c.if-not-is_chare.false, lt-leb 1 _ c.if-sn-lt1.true)
-
-pub returns : goal.returns
-unfolding in_range between
-returns c =
-    rw (le-leb 1 _ c.if-kind-lt1.false, le-leb _ 5 c.if-kind-gt5.false, sym c.is_sender.ensures ∙ c.if-not-is_sender.false, sym c.is_chare.ensures ∙ c.if-not-is_chare.false, le-leb 1 _ c.if-sn-lt1.false)
+pub returns-else-is_sender-clause-asked : goal.returns-else-is_sender-clause-asked
+unfolding first_no in_range
+returns-else-is_sender-clause-asked c =
+    let kind = ap (between 1 5) (sym c.in_ok-kind.ensures) ∙ kind_in c.in_ok-kind.kind in
+    rw (kind, ← c.is_sender.ensures) (elim c.else-is_sender.branch [
+      | else-is_sender-via-then-is_sender+then-is_chare+else-contains w ↦
+          let out : (c.args.sn < 1) ⊎ (60000 < c.args.sn) = search rules in
+          let sn : between 1 60000 c.args.sn ≡ false = ⊎_elim (between_low 1 60000 c.args.sn) (between_high 1 60000 c.args.sn) out in
+          rw (w.if-is_sender.true, ← w.is_chare.ensures, w.if-is_chare.true, sn)
+      | else-is_sender-via-then-is_sender+else-is_chare w ↦ rw (w.if-is_sender.true, ← w.is_chare.ensures, w.if-is_chare.false)
+      | else-is_sender-via-else-is_sender w ↦ rw w.if-is_sender.false
+    ])

@@ -3,7 +3,7 @@ use Rattle.std.specs.Prelude.{◌≡◌, refl, List, ℕ, ◌-◌, ◌<◌, leng
 use Rattle.std.proofs.Common.{sym, ◌∙◌, arith, lt-ltb, le-ltb}
 use Rattle.lists.specs.Questions.{put_all}
 use Rattle.arrays.specs.Front.{push_fits, push_full}
-use Rattle.protocol.specs.{Parts.note_room, Packets.note_of}
+use Rattle.protocol.specs.{declared.Refusal.TheVariants.TableFull, Parts.note_room, Packets.note_of}
 use Rattle.item.specs.{Item.items, Both.as_many}
 use Rattle.notelist.specs.{Notes.{note_of as word-note, notes}, Fits.fitted_same}
 use Rattle.deliver.specs.{NoteEffect.{note_questions, note_effect}, View.{passes, stops}}
@@ -15,14 +15,14 @@ many ws = as_many word-note ws
 
 pub returns-then-has : goal.returns-then-has
 unfolding note_of note_questions note_effect put_all
-returns-then-has c = let e = sym c.has.ensures ∙ c.if-has.true in record { row = passes 0 refl (rw e); words = rw e }
+returns-then-has c = let e = sym c.has.ensures ∙ c.if-has.true in record { row = passes _ (rw e); words = rw e }
 
 pub returns-then-count-ge64 : goal.returns-then-count-ge64
 unfolding note_of note_questions note_effect put_all
 returns-then-count-ge64 c =
     let ws = c.args.ws.now in
     let e = sym c.has.ensures ∙ c.if-has.false in record {
-      row = stops 10 (λ e. omega arith) (rw (e, ← c.count.ensures, le-ltb c.count.result note_room (omega arith))) refl;
+      row = stops TableFull (rw (e, ← c.count.ensures, le-ltb c.count.result note_room (omega arith))) refl;
       words = rw e (sym (push_full note_room (items ws) _ (omega (arith, many ws, c.count.ensures))));
     }
 
@@ -34,6 +34,6 @@ returns c =
     let same = fitted_same (note_of c.args.p c.args.tn) c.requires.fits.sender c.requires.fits.receiver in
     let e = sym c.has.ensures ∙ c.if-has.false in
     record {
-      row = passes 0 refl (rw (e, lt-ltb, c.push.ensures.row.items, z, same, push_fits));
+      row = passes _ (rw (e, lt-ltb, c.push.ensures.row.items, z, same, push_fits));
       words = rw e (c.push.ensures.words ∙ rw z);
     }

@@ -1,31 +1,25 @@
--- `frames::is_hexadecimal` meets its contract: the loop has passed only digits, so the answer is that for the rest.
-use Rattle.std.proofs.Common.{sym, ◌∙◌, arith, rules, eq-eqb, ne_eqb, add-one, drop-cons, drop_of_length-le}
+-- `frames::is_hexadecimal` meets its contract: an even length, and digits only.
+use Rattle.std.specs.Prelude.{◌≡◌, refl, ◌∷◌, [], List, ℕ}
+use Rattle.std.specs.List.{list_all}
+use Rattle.std.proofs.Common.{◌∙◌, rules, eq-eqb, ne_eqb}
+use Rattle.std.proofs.lemmas.Iterator.{YieldsList-from_slice}
+use Rattle.std.proofs.lemmas.Iterator.Search.{all_from_yields_List}
+use borrow.Author.Tests.{tests}
 use Rattle.lists.specs.Lists.{allb}
-use Rattle.frames.specs.{Decode.{is_hexadecimal}, CodeLaws.{digit_true, digit_false}}
+use Rattle.frames.specs.Decode.{is_digit, is_hexadecimal}
 use Rattle.frames.proofs.is_hexadecimal.Goals as goal
 
-pub returns-then-line-ne0 : goal.returns-then-line-ne0
+all_judged : (l : List ℕ) → list_all is_digit l ≡ allb is_digit l
+unfolding allb
+all_judged [] = refl
+all_judged (x ∷ l) = rw (all_judged l)
+
+pub returns-then-line-eq0 : goal.returns-then-line-eq0
 unfolding is_hexadecimal
-returns-then-line-ne0 c = rw (ne_eqb _ _ c.if-line-ne0.true)
+returns-then-line-eq0 c =
+    all_from_yields_List is_digit _ _ _ c.all.ensures.ran (YieldsList-from_slice c.args.line.now cc) (λ x b q k. search (rules, tests))
+    ∙ rw (all_judged c.args.line.now, eq-eqb _ _ c.if-line-eq0.true)
 
-pub loop-i-init : goal.loop-i-init
+pub returns-else-line-eq0 : goal.returns-else-line-eq0
 unfolding is_hexadecimal
-loop-i-init c = (search rules, rw (eq-eqb _ _ c.if-line-ne0.false))
-
-pub returns-then-digit-eq-NO_DIGIT : goal.returns-then-digit-eq-NO_DIGIT
-unfolding allb
-returns-then-digit-eq-NO_DIGIT c =
-    let l = c.loop-i in
-    sym (l.invariant.1 ∙ rw (drop-cons c.args.line.now l.i 0 (omega arith), digit_false _ (sym c.digit.ensures ∙ c.if-digit-eq-NO_DIGIT.true)))
-
-pub loop-i-preserved : goal.loop-i-preserved
-unfolding allb
-loop-i-preserved c =
-    let l = c.loop-i in
-    (search rules, l.invariant.1 ∙ rw (drop-cons c.args.line.now l.i 0 (omega arith), digit_true _ (λ e. c.if-digit-eq-NO_DIGIT.false (c.digit.ensures ∙ e)), add-one l.i))
-
-pub returns : goal.returns
-unfolding allb
-returns c =
-    let l = c.loop-i in
-    sym (l.invariant.1 ∙ rw (drop_of_length-le c.args.line.now {i = l.i} (omega arith)))
+returns-else-line-eq0 c = rw (ne_eqb _ _ c.if-line-eq0.false)

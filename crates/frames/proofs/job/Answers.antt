@@ -7,24 +7,12 @@ pub returns-then-not-is_hexadecimal : goal.returns-then-not-is_hexadecimal
 unfolding job_as
 returns-then-not-is_hexadecimal c = rw (sym c.is_hexadecimal.ensures ∙ c.if-not-is_hexadecimal.true)
 
-pub returns-then-line-wide : goal.returns-then-line-wide
+pub returns-then-line-least : goal.returns-then-line-least
 unfolding job_as
-returns-then-line-wide c =
-    rw (
-      sym c.is_hexadecimal.ensures ∙ c.if-not-is_hexadecimal.false,
-      ← (c.wide-machines.ensures ∙ c.byte.ensures),
-      ← (c.wide-chares.ensures ∙ c.byte-2.ensures),
-      ← c.wide.ensures,
-      eq-eqb _ _ c.if-line-wide.true,
-    )
+returns-then-line-least c =
+    rw (sym c.is_hexadecimal.ensures ∙ c.if-not-is_hexadecimal.false, ← c.byte-machines.ensures, ← c.byte-chares.ensures, eq-eqb _ _ c.if-line-least.true)
 
-pub returns-else-line-wide : goal.returns-else-line-wide
+pub returns-else-line-least : goal.returns-else-line-least
 unfolding job_as
-returns-else-line-wide c =
-    rw (
-      sym c.is_hexadecimal.ensures ∙ c.if-not-is_hexadecimal.false,
-      ← (c.wide-machines.ensures ∙ c.byte.ensures),
-      ← (c.wide-chares.ensures ∙ c.byte-2.ensures),
-      ← c.wide.ensures,
-      ne_eqb _ _ c.if-line-wide.false,
-    )
+returns-else-line-least c =
+    rw (sym c.is_hexadecimal.ensures ∙ c.if-not-is_hexadecimal.false, ← c.byte-machines.ensures, ← c.byte-chares.ensures, ne_eqb _ _ c.if-line-least.false)

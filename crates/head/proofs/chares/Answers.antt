@@ -1,10 +1,9 @@
 -- `head::chares` meets its contract: the clamp is that of the view.
-use Rattle.std.proofs.Common.{◌∙◌, arith, rules}
+use Rattle.std.proofs.Common.{◌∙◌, arith}
 use Rattle.words.specs.Part.{part_at}
 use Rattle.head.specs.Head.{CHARES, job_of}
 use Rattle.head.proofs.chares.Goals as goal
 
-pub returns : goal.returns
+pub returns-clause-is : goal.returns-clause-is
 unfolding job_of
-returns c =
-    record { is = c.at_most.ensures ∙ rw (part_at 0 4 CHARES c.args.h.now 0 (omega arith)); small = omega arith }
+returns-clause-is c = c.min.ensures ∙ rw (part_at 0 4 CHARES c.args.h.now 0 (omega arith))

@@ -1,5 +1,4 @@
 -- `head::first` meets its contract: a cell of the view.
-use Rattle.std.proofs.Common.{rules}
 use Rattle.head.specs.Head.{job_of}
 use Rattle.head.proofs.first.Goals as goal
 

@@ -1,13 +1,9 @@
 -- `head::is_chare` meets its contract: the two tests of a range.
-use Rattle.std.proofs.Common.{le-leb, rules}
-use Rattle.std.proofs.lemmas.Bool.{lt-leb}
+use Rattle.std.proofs.Common.{rules}
+use borrow.Author.Tests.{tests}
 use Rattle.protocol.specs.Frames.{between}
 use Rattle.head.proofs.is_chare.Goals as goal
 
-pub returns-then-c-lt1 : goal.returns-then-c-lt1
-unfolding between
-returns-then-c-lt1 c = rw (lt-leb 1 _ c.if-c-lt1.true)
-
 pub returns : goal.returns
 unfolding between
-returns c = rw (le-leb 1 _ c.if-c-lt1.false, c.chares.ensures.is)
+returns c = search (rules, tests)

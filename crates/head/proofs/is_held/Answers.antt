@@ -1,5 +1,4 @@
 -- `head::is_held` meets its contract: a word of the view.
-use Rattle.std.proofs.Common.{rules}
 use Rattle.head.specs.Head.{held_of}
 use Rattle.head.proofs.is_held.Goals as goal
 

@@ -1,12 +1,12 @@
 -- `head::is_local` meets its contract: by what `home` ensures.
-use Rattle.std.proofs.Common.{eq-eqb, ne_eqb, rules}
+use Rattle.std.proofs.Common.{ne_eqb}
 use Rattle.protocol.specs.Sending.{is_local}
 use Rattle.head.proofs.is_local.Goals as goal
 
-pub returns-then-a-eq0 : goal.returns-then-a-eq0
+pub returns-then-a-ne0 : goal.returns-then-a-ne0
 unfolding is_local
-returns-then-a-eq0 c = rw (eq-eqb _ _ c.if-a-eq0.true)
+returns-then-a-ne0 c = rw (ne_eqb _ _ c.if-a-ne0.true, c.home.ensures.is, c.home-then-a-ne0.ensures.is)
 
-pub returns : goal.returns
+pub returns-else-a-ne0 : goal.returns-else-a-ne0
 unfolding is_local
-returns c = rw (ne_eqb _ _ c.if-a-eq0.false, c.home.ensures.is, c.home-2.ensures.is)
+returns-else-a-ne0 c = rw c.if-a-ne0.false

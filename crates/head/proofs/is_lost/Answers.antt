@@ -1,5 +1,5 @@
 -- `head::is_lost` meets its contract: the second word.
-use Rattle.std.proofs.Common.{arith, rules}
+use Rattle.std.proofs.Common.{arith}
 use Rattle.words.specs.Part.{part_at}
 use Rattle.head.specs.Head.{LOST, lost_of}
 use Rattle.head.proofs.is_lost.Goals as goal

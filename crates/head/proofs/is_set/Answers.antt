@@ -1,5 +1,5 @@
 -- `head::is_set` meets its contract: the first word.
-use Rattle.std.proofs.Common.{arith, rules}
+use Rattle.std.proofs.Common.{arith}
 use Rattle.words.specs.Part.{part_at}
 use Rattle.head.specs.Head.{SET, job_of}
 use Rattle.head.proofs.is_set.Goals as goal

@@ -1,5 +1,5 @@
 -- `head::judge_chare` meets its contract: by what the four tests ensure.
-use Rattle.std.proofs.Common.{◌∙◌, rules}
+use Rattle.std.proofs.Common.{◌∙◌}
 use Rattle.head.specs.Head.{chare_asked}
 use Rattle.head.proofs.judge_chare.Goals as goal
 

@@ -1,5 +1,4 @@
 -- `head::on` meets its contract: by what `home` ensures.
-use Rattle.std.proofs.Common.{rules}
 use Rattle.protocol.specs.Parts.{on}
 use Rattle.head.proofs.on.Goals as goal
 

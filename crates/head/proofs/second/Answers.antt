@@ -1,5 +1,4 @@
 -- `head::second` meets its contract: a cell of the view.
-use Rattle.std.proofs.Common.{rules}
 use Rattle.head.specs.Head.{job_of}
 use Rattle.head.proofs.second.Goals as goal
 

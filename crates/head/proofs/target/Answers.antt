@@ -1,5 +1,4 @@
 -- `head::target` meets its contract: a word of the view.
-use Rattle.std.proofs.Common.{rules}
 use Rattle.head.specs.Head.{target_of}
 use Rattle.head.proofs.target.Goals as goal
 

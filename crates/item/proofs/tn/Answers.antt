@@ -1,5 +1,4 @@
 use Rattle.std.specs.Prelude.{refl}
-use Rattle.std.proofs.Common.{rules}
 use Rattle.item.specs.Item.{item_of}
 use Rattle.item.proofs.tn.Goals as goal
 

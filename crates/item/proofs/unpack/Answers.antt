@@ -1,7 +1,6 @@
-use Rattle.std.specs.Prelude.{refl}
-use Rattle.std.proofs.Common.{rules}
 use Rattle.item.specs.Item.{item_of}
 use Rattle.item.proofs.unpack.Goals as goal
 
 pub returns : goal.returns
-returns c = unfold item_of in refl
+unfolding item_of
+returns c = rw c.tn.ensures

@@ -1,13 +1,13 @@
--- `jobline::buddy_in_range` meets its contract: test by test.
-use Rattle.std.proofs.Common.{le-leb}
-use Rattle.std.proofs.lemmas.Bool.{lt-leb}
+-- `jobline::buddy_in_range` meets its contract, test by test.
+use Rattle.std.proofs.Common.{arith}
+use Rattle.std.proofs.lemmas.Bool.Decides.{nat_tests}
 use Rattle.protocol.specs.Job.{machines_of, buddy_in_range}
 use Rattle.jobline.proofs.buddy_in_range.Goals as goal
 
-pub returns-then-byte-x : goal.returns-then-byte-x
+pub returns-then-buddy-byte : goal.returns-then-buddy-byte
 unfolding buddy_in_range machines_of
-returns-then-byte-x c = rw (← c.byte.ensures, ← c.buddy_byte-x.ensures, lt-leb _ _ c.if-byte-x.true)
+returns-then-buddy-byte c = grind (arith, nat_tests)
 
-pub returns : goal.returns
+pub returns-else-buddy-byte : goal.returns-else-buddy-byte
 unfolding buddy_in_range machines_of
-returns c = rw (← c.byte.ensures, ← c.buddy_byte-x.ensures, le-leb _ _ c.if-byte-x.false)
+returns-else-buddy-byte c = grind (arith, nat_tests)

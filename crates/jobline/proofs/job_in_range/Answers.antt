@@ -1,38 +1,43 @@
--- `jobline::job_in_range` meets its contract: test by test.
-use Rattle.std.proofs.Common.{sym, ◌∙◌, le-leb}
-use Rattle.std.proofs.lemmas.Bool.{lt-leb}
-use Rattle.protocol.specs.{Frames.between, Job.{machines_of, chares_of, job_in_range}}
-use Rattle.jobline.specs.Passes.{buddies_in_range, chares_in_range}
+-- `jobline::job_in_range` meets its contract, test by test.
+use Rattle.std.specs.Prelude.{◌≡◌}
+use Rattle.std.proofs.Common.{◌∙◌, arith, rules}
+use Rattle.std.proofs.lemmas.Bool.Decides.{nat_tests}
+use Rattle.std.proofs.lemmas.Iterator.Search.{all_from_yields_List}
+use borrow.Author.Tests.{tests}
+use Rattle.lists.specs.{Lists.allb, Counting.counting}
+use Rattle.frames.specs.Decode.{decoded}
+use Rattle.protocol.specs.{Frames.between, Job.{machines_of, chares_of, buddy_in_range, chare_in_range}}
+use Rattle.jobline.specs.{Passes.asked, Spans.{from_one, all_tested}}
 use Rattle.jobline.proofs.job_in_range.Goals as goal
+use Rattle.jobline.proofs.job_in_range.Goals.{then-contains, else-contains, then-contains-2, else-contains-2}
 
-pub returns-then-m-lt2 : goal.returns-then-m-lt2
-unfolding job_in_range between machines_of
-returns-then-m-lt2 c = rw (← c.byte-m.ensures, lt-leb _ _ c.if-m-lt2.true)
+pub returns-then-all : goal.returns-then-all
+unfolding between machines_of chares_of
+returns-then-all c =
+    let b = decoded c.args.line.now in
+    let n = c.new-then-all.ensures in
+    let chares : c.all-then-all.result ≡ allb (chare_in_range b) (counting c.byte-chares.result 1) =
+    all_from_yields_List (chare_in_range b) _ _ _ c.all-then-all.ensures.ran (from_one _ n.start n.end n.exhausted) (λ x b q k. search (rules, tests)) ∙ all_tested _ _ in
+    rw (asked b)
+    (elim c.if-contains-2.branch [
+      | then-contains-2 w ↦
+          let n = w.new-then-contains-2.ensures in
+          let buddies : w.all.result ≡ allb (buddy_in_range b) (counting c.byte-machines.result 1) =
+          all_from_yields_List (buddy_in_range b) _ _ _ w.all.ensures.ran (from_one _ n.start n.end n.exhausted) (λ x b q k. search (rules, tests)) ∙ all_tested _ _ in
+          elim c.if-contains.branch [ then-contains v ↦ grind (arith, nat_tests) | else-contains v ↦ grind (arith, nat_tests) ]
+      | else-contains-2 w ↦ grind (arith, nat_tests)
+    ])
 
-pub returns-then-m-gt6 : goal.returns-then-m-gt6
-unfolding job_in_range between machines_of
-returns-then-m-gt6 c = rw (← c.byte-m.ensures, le-leb _ _ c.if-m-lt2.false, lt-leb _ _ c.if-m-gt6.true)
-
-pub returns-then-c-lt1 : goal.returns-then-c-lt1
-unfolding job_in_range between machines_of chares_of
-returns-then-c-lt1 c =
-    rw (← c.byte-m.ensures, le-leb _ _ c.if-m-lt2.false, le-leb _ _ c.if-m-gt6.false, ← c.byte-c.ensures, lt-leb _ _ c.if-c-lt1.true)
-
-pub returns-then-c-gt12 : goal.returns-then-c-gt12
-unfolding job_in_range between machines_of chares_of
-returns-then-c-gt12 c =
-    rw (← c.byte-m.ensures, le-leb _ _ c.if-m-lt2.false, le-leb _ _ c.if-m-gt6.false)
-    (rw (← c.byte-c.ensures, le-leb _ _ c.if-c-lt1.false, lt-leb _ _ c.if-c-gt12.true))
-
-pub returns-then-not-buddies_in_range : goal.returns-then-not-buddies_in_range
-unfolding job_in_range buddies_in_range between machines_of chares_of
-returns-then-not-buddies_in_range c =
-    rw (sym c.buddies_in_range.ensures ∙ c.if-not-buddies_in_range.true, ← c.byte-m.ensures, le-leb _ _ c.if-m-lt2.false, le-leb _ _ c.if-m-gt6.false)
-    (rw (← c.byte-c.ensures, le-leb _ _ c.if-c-lt1.false, le-leb _ _ c.if-c-gt12.false))
-
-pub returns : goal.returns
-unfolding job_in_range buddies_in_range chares_in_range between machines_of chares_of
-returns c =
-    c.chares_in_range.ensures
-    ∙ rw (sym c.buddies_in_range.ensures ∙ c.if-not-buddies_in_range.false, ← c.byte-m.ensures, le-leb _ _ c.if-m-lt2.false, le-leb _ _ c.if-m-gt6.false)
-    (rw (← c.byte-c.ensures, le-leb 1 _ c.if-c-lt1.false, le-leb _ _ c.if-c-gt12.false))
+pub returns-else-all : goal.returns-else-all
+unfolding between machines_of chares_of
+returns-else-all c =
+    let b = decoded c.args.line.now in
+    rw (asked b)
+    (elim c.if-contains-2.branch [
+      | then-contains-2 w ↦
+          let n = w.new-then-contains-2.ensures in
+          let buddies : w.all.result ≡ allb (buddy_in_range b) (counting c.byte-machines.result 1) =
+          all_from_yields_List (buddy_in_range b) _ _ _ w.all.ensures.ran (from_one _ n.start n.end n.exhausted) (λ x b q k. search (rules, tests)) ∙ all_tested _ _ in
+          elim c.if-contains.branch [ then-contains v ↦ grind (arith, nat_tests) | else-contains v ↦ grind (arith, nat_tests) ]
+      | else-contains-2 w ↦ elim c.if-contains.branch [ then-contains v ↦ grind (arith, nat_tests) | else-contains v ↦ grind (arith, nat_tests) ]
+    ])

@@ -1,4 +1,4 @@
-use Rattle.std.proofs.Common.{sym, ap, ◌∙◌, rules}
+use Rattle.std.proofs.Common.{sym, ap, ◌∙◌}
 use Rattle.std.proofs.Math.ListN.{get_or-map as List·getD-map}
 use Rattle.words.specs.Rows.{row}
 use Rattle.notelist.specs.Notes.{note_of, notes}

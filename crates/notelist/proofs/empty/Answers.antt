@@ -1,5 +1,5 @@
 use Rattle.std.specs.Prelude.{refl}
-use Rattle.std.proofs.Common.{arith, rules}
+use Rattle.std.proofs.Common.{arith}
 use Rattle.words.specs.Becomes.{becomes_same, becomes_mapped, beside_same, beside_cut}
 use Rattle.item.specs.Held.{held_end}
 use Rattle.notelist.specs.Notes.{note_of, notes}

@@ -1,4 +1,3 @@
-use Rattle.std.proofs.Common.{rules}
 use Rattle.item.specs.Item.{clipped}
 use Rattle.notelist.specs.Notes.{packed}
 use Rattle.notelist.proofs.pack.Goals as goal

@@ -1,4 +1,3 @@
-use Rattle.std.proofs.Common.{rules}
 use Rattle.item.specs.{Held.held_push, Item.{item_of, items}}
 use Rattle.notelist.specs.Notes.{note_of, notes, packed_note}
 use Rattle.notelist.proofs.push.Goals as goal

@@ -1,4 +1,3 @@
-use Rattle.std.proofs.Common.{rules}
 use Rattle.notelist.specs.Notes.{note_of, as_note}
 use Rattle.notelist.proofs.unpack.Goals as goal
 

@@ -22,7 +22,7 @@ returns-then-is_lost c =
 
 pub begin-requires : goal.begin-requires
 begin-requires c =
-    record { s_len = search rules; line_value = sym c.job_in_range.ensures ∙ c.if-not-job_in_range.false }
+    sym c.job_in_range.ensures ∙ c.if-not-job_in_range.false
 
 pub returns : goal.returns
 unfolding tried judged put_all job_questions outcome view

@@ -4,4 +4,4 @@ use Rattle.opening.proofs.start_chare.Goals as goal
 
 pub returns : goal.returns
 returns c =
-    both_started _ c.requires.0 _ c.requires.1 _ _ c.write_state.auto.m c.write_state-2.auto.m c.write_state.ensures c.write_state-2.ensures
+    both_started _ c.told-s _ c.requires _ _ c.write_state.auto.m c.write_state-2.auto.m c.write_state.ensures c.write_state-2.ensures

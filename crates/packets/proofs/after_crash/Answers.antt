@@ -1,8 +1,14 @@
 -- `packets::after_crash` meets its contract: the packets that stay are those that survive.
 use Rattle.std.proofs.Common.{rules}
-use Rattle.packets.specs.Stays.{stays, is_kept}
+use Rattle.protocol.specs.Crash.{survives}
+use Rattle.head.specs.Head.{job_of}
+use Rattle.item.specs.Both.{both_kept}
+use Rattle.packets.specs.Words.{as_packet, unpacked, packets}
 use Rattle.packets.proofs.after_crash.Goals as goal
 
 pub returns : goal.returns
-unfolding is_kept stays
-returns c = record { row = c.sift.ensures.row; words = c.sift.ensures.words }
+unfolding packets unpacked
+returns c =
+    let a = c.args in
+    let stay = both_kept as_packet (survives (job_of a.h.now) a.p) (c.retain.ensures _ (λ w b h p. search rules)) in
+    record { row = stay.0; words = stay.1 }

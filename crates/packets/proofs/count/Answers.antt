@@ -1,5 +1,5 @@
 -- `packets::count` meets its contract: a packet a word.
-use Rattle.std.proofs.Common.{sym, ◌∙◌, rules}
+use Rattle.std.proofs.Common.{sym, ◌∙◌}
 use Rattle.std.proofs.lemmas.List.{length-map}
 use Rattle.words.specs.Rows.{row}
 use Rattle.packets.specs.Words.{unpacked, packets}

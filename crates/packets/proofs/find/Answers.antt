@@ -1,31 +1,26 @@
--- `packets::find` meets its contract: i words have another name.
-use Rattle.std.specs.Prelude.{◌≡◌, ◌+◌, ◌-◌, ◌≤◌, drop}
-use Rattle.std.proofs.Common.{sym, ap, ◌∙◌, arith, rules}
-use Rattle.arrays.specs.Place.{place, place_start}
-use Rattle.words.specs.Rows.{row, row_at, seek_hit, seek_miss, seek_end}
-use Rattle.packets.specs.{Words.unpacked, View.{sought_at, sought_none}, Names.{has_name, by_name, nobody}}
+-- `packets::find` meets its contract: the first word of the name.
+use Rattle.std.specs.Prelude.{◌+◌, ◌*◌}
+use Rattle.std.proofs.Common.{◌∙◌, rules, tests, arith}
+use Rattle.std.proofs.lemmas.Iterator.{YieldsList-from_slice}
+use Rattle.std.proofs.lemmas.Iterator.Search.{position_from_yields_List}
+use Rattle.protocol.specs.Numbers.{kind_number}
+use Rattle.words.specs.Rows.{PEER, OWNER, row}
+use Rattle.packets.specs.{Names.{has_name, by_name, nobody}, View.{sought_at, sought_none}}
 use Rattle.packets.proofs.find.Goals as goal
 
-pub returns-then-sender-ge16 : goal.returns-then-sender-ge16
-returns-then-sender-ge16 c = nobody _ _ _ _ _ (λ s r. omega arith)
+pub returns-then-name-ge16 : goal.returns-then-name-ge16
+returns-then-name-ge16 c = nobody _ _ _ _ _ (λ s r. omega arith)
 
-pub returns-then-receiver-ge16 : goal.returns-then-receiver-ge16
-returns-then-receiver-ge16 c = nobody _ _ _ _ _ (λ s r. omega arith)
-
-pub loop-i-init : goal.loop-i-init
-loop-i-init c = (search rules, place_start _ _)
-
-pub returns-then-has_name : goal.returns-then-has_name
-returns-then-has_name c =
-    let l = c.loop-i in
-    sought_at _ _ _ (λ w. by_name _ _ _ _ w (omega arith) (omega arith) (search rules)) _ (seek_hit _ _ _ l.invariant.1 (omega arith) (sym c.has_name.ensures ∙ c.if-has_name.true)) _ (c.unpack-packet.ensures ∙ ap unpacked (row_at _ _ (omega arith))) (omega arith)
-
-pub loop-i-preserved : goal.loop-i-preserved
-loop-i-preserved c =
-    let l = c.loop-i in
-    (search rules, seek_miss _ _ _ l.invariant.1 (omega arith) (sym c.has_name.ensures ∙ c.if-has_name.false))
+pub returns-in_err-place : goal.returns-in_err-place
+returns-in_err-place c =
+    let a = c.args.name in
+    let test = has_name (a.sn + PEER * a.receiver + OWNER * a.sender) (kind_number a.kind) in
+    let first = position_from_yields_List test _ _ c.position.result c.position.ensures.ran (YieldsList-from_slice (row c.args.ws.now) cc) (λ x b q k. search (rules, tests)) in
+    c.from_residual.ensures ∙ sought_none _ test _ (λ w. by_name _ _ _ _ w (omega arith) (omega arith) (search rules)) _ first c.in_err-place.was
 
 pub returns : goal.returns
 returns c =
-    let l = c.loop-i in
-    sought_none _ _ _ (λ w. by_name _ _ _ _ w (omega arith) (omega arith) (search rules)) _ (seek_end _ _ _ l.invariant.1 (omega arith)) (omega arith)
+    let a = c.args.name in
+    let test = has_name (a.sn + PEER * a.receiver + OWNER * a.sender) (kind_number a.kind) in
+    let first = position_from_yields_List test _ _ c.position.result c.position.ensures.ran (YieldsList-from_slice (row c.args.ws.now) cc) (λ x b q k. search (rules, tests)) in
+    rw (c.unpack.ensures, c.items-items.ensures) (sought_at _ test _ (λ w. by_name _ _ _ _ w (omega arith) (omega arith) (search rules)) _ first c.in_ok-place.was)

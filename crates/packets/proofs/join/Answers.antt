@@ -1,5 +1,4 @@
 -- `packets::join` meets its contract: a word more.
-use Rattle.std.proofs.Common.{rules}
 use Rattle.item.specs.{Held.held_push, Item.{item_of, items}}
 use Rattle.packets.specs.{Words.{unpacked, packets}, Packing.packed_packet}
 use Rattle.packets.proofs.join.Goals as goal

@@ -2,4 +2,4 @@
 use Rattle.satuphir.proofs.satuphir_precedes.Goals as goal
 
 pub returns : goal.returns
-returns c = record { answer = c.precedes-a.result; right = c.precedes-a.ensures; as_number = c.number.ensures }
+returns c = record { answer = c.precedes.result; right = c.precedes.ensures; as_number = c.from.ensures }

@@ -1,27 +1,29 @@
-use Rattle.std.proofs.Common.{arith, rules}
+use Rattle.std.specs.Prelude.{refl}
+use Rattle.std.proofs.Common.{arith}
+use Rattle.std.proofs.lemmas.Result.{err_from_is_err_and}
+use Rattle.protocol.specs.Numbers.{number_not_zero}
 use Rattle.sends.specs.Inject.{inject_refused, index, hops_in, not_sent, is_sent}
 use Rattle.sends.proofs.inject.Goals as goal
 
-pub returns-then-no-ne0 : goal.returns-then-no-ne0
-returns-then-no-ne0 c =
+pub returns-in_err-judge_inject : goal.returns-in_err-judge_inject
+returns-in_err-judge_inject c =
     let a = c.args in
-    inject_refused a.s.now a.chare a.value a.hops _ c.judge_inject-no.ensures c.if-no-ne0.true
+    let p = err_from_is_err_and c.from_residual.result c.from_residual.ensures.1 in
+    rw (p.1, p.2) (inject_refused a.s.now a.chare a.value a.hops _ c.in_err-judge_inject.ensures)
 
-pub send_one-n-requires : goal.send_one-n-requires
-send_one-n-requires c =
+pub send_one-requires : goal.send_one-requires
+send_one-requires c =
     let a = c.args in
-    let h = index a.s.now a.chare a.value a.hops _ c.judge_inject-no.ensures c.if-no-ne0.false in
-    record {
-      s_len = search rules;
-      a_bound = (omega arith, h, hops_in a.s.now a.chare a.value a.hops _ c.judge_inject-no.ensures c.if-no-ne0.false);
-    }
+    let h = index a.s.now a.chare a.value a.hops c.in_ok-judge_inject.ensures in
+    (omega arith, h, hops_in a.s.now a.chare a.value a.hops c.in_ok-judge_inject.ensures)
 
-pub returns-then-n-ne0 : goal.returns-then-n-ne0
-returns-then-n-ne0 c =
+pub returns-in_err-send_one : goal.returns-in_err-send_one
+returns-in_err-send_one c =
     let a = c.args in
-    not_sent a.s.now a.chare a.value a.hops _ c.judge_inject-no.ensures c.if-no-ne0.false _ _ c.send_one-n.ensures c.if-n-ne0.true
+    let p = err_from_is_err_and c.from_residual-in_err-send_one.result c.from_residual-in_err-send_one.ensures.1 in
+    rw (p.1, p.2) (not_sent a.s.now a.chare a.value a.hops c.in_ok-judge_inject.ensures _ c.in_err-send_one.ensures (number_not_zero _))
 
 pub returns : goal.returns
 returns c =
     let a = c.args in
-    is_sent a.s.now a.chare a.value a.hops _ c.judge_inject-no.ensures c.if-no-ne0.false _ _ c.send_one-n.ensures c.if-n-ne0.false
+    is_sent a.s.now a.chare a.value a.hops c.in_ok-judge_inject.ensures _ c.in_ok-send_one.ensures refl

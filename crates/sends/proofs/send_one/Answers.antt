@@ -1,12 +1,14 @@
+use Rattle.std.proofs.lemmas.Result.{err_from_is_err_and}
 use Rattle.sends.specs.Made.{none_sent, one_said, one_made}
 use Rattle.sends.proofs.send_one.Goals as goal
 
-pub returns-then-no-ne0 : goal.returns-then-no-ne0
-returns-then-no-ne0 c =
+pub returns-in_err-one_verdict : goal.returns-in_err-one_verdict
+returns-in_err-one_verdict c =
     let a = c.args in
-    none_sent (one_said a.s.now a.a a.b a.value a.hops _ c.plan_of-p.ensures _ _ _ c.logged-g.ensures.is c.waiting-w.ensures.is c.one_verdict-no.ensures) c.if-no-ne0.true
+    let p = err_from_is_err_and c.from_residual.result c.from_residual.ensures.1 in
+    rw (p.1, p.2) (none_sent _ (one_said a.s.now a.a a.b a.value a.hops _ c.plan_of-p.ensures _ _ c.logged.ensures.is c.waiting.ensures.is c.in_err-one_verdict.ensures))
 
 pub returns : goal.returns
 returns c =
     let a = c.args in
-    one_made a.s.now a.a a.b a.value a.hops _ c.plan_of-p.ensures _ _ _ c.logged-g.ensures.is c.waiting-w.ensures.is c.one_verdict-no.ensures c.if-no-ne0.false _ c.send.ensures
+    one_made a.s.now a.a a.b a.value a.hops _ c.plan_of-p.ensures _ _ c.logged.ensures.is c.waiting.ensures.is c.in_ok-one_verdict.ensures _ c.send.ensures

@@ -1,20 +1,19 @@
 -- `settle::has_caught_up` meets its contract: below its target, or there.
 use Rattle.std.specs.Prelude.{◌≡◌, ◌+◌, ◌-◌}
 use Rattle.std.proofs.Common.{◌∙◌, arith}
-use Rattle.memory.specs.Places.{LOG, ROW, MEMORY}
+use Rattle.memory.specs.Places.{MEMORY}
 use Rattle.store.specs.Places.{live_from}
 use Rattle.settle.specs.Done.{behind, there}
 use Rattle.settle.proofs.has_caught_up.Goals as goal
 
-pub returns-then-height-target : goal.returns-then-height-target
-returns-then-height-target c =
+pub returns-else-target-height : goal.returns-else-target-height
+returns-else-target-height c =
     let a = live_from c.args.c in
     let m : (a + MEMORY) - a ≡ MEMORY = omega arith in
-    behind _ _ c.requires.1 _ _ (rw m at c.height.ensures) c.target.ensures c.if-height-target.true
+    behind _ _ c.requires _ _ (rw m at c.height.ensures) c.target.ensures c.if-target-height.false
 
-pub returns : goal.returns
-returns c =
+pub returns-then-target-height : goal.returns-then-target-height
+returns-then-target-height c =
     let a = live_from c.args.c in
     let m : (a + MEMORY) - a ≡ MEMORY = omega arith in
-    let l : (a + MEMORY) - (a + LOG) ≡ ROW = omega arith in
-    (rw l at c.all_ticketed.ensures) ∙ there _ _ c.requires.1 _ _ (rw m at c.height.ensures) c.target.ensures c.if-height-target.false
+    (rw m at c.all_ticketed.ensures) ∙ there _ _ c.requires _ _ (rw m at c.height.ensures) c.target.ensures c.if-target-height.true

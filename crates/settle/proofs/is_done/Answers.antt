@@ -1,32 +1,26 @@
--- `settle::is_done` meets its contract: those before c pass, so the answer is that for the rest.
-use Rattle.std.proofs.Common.{sym, ◌∙◌, arith, rules}
-use Rattle.lists.specs.Lists.{allb}
-use Rattle.protocol.specs.{Parts.every_chare, Restart.is_done}
-use Rattle.lists.specs.Counting.{counting}
-use Rattle.arrays.specs.Loops.{each_hit, each_miss, each_end, allb_keep}
-use Rattle.settle.specs.Done.{passes}
+-- `settle::is_done` meets its contract: all chares of a machine that is catching up pass.
+use Rattle.std.specs.Prelude.{◌≡◌, ◌≢◌, refl, true, false, ℕ, ◌≤◌, get_or}
+use Rattle.std.proofs.Common.{arith, ◌∙◌}
+use Rattle.std.proofs.lemmas.Grind.{common_steps}
+use Rattle.std.proofs.iter.runs.Sources.{ranges}
+use Rattle.protocol.specs.declared.Status.TheVariants.{CatchingUp}
+use Rattle.lists.specs.Tests.{either}
+use Rattle.head.specs.Head.{status_of}
+use Rattle.store.specs.View.{view}
+use Rattle.settle.specs.Done.{passes, busy, all_done, one_left}
 use Rattle.settle.proofs.is_done.Goals as goal
 
-pub returns-then-not-is_catching_up : goal.returns-then-not-is_catching_up
-unfolding is_done
-returns-then-not-is_catching_up c = rw (sym c.is_catching_up.ensures ∙ c.if-not-is_catching_up.true)
+pub returns-else-eq : goal.returns-else-eq
+returns-else-eq c =
+    let s = c.args.s.now in
+    let not : status_of s c.args.p ≢ CatchingUp = grind (arith, common_steps) in
+    c.if-eq.false ∙ busy s c.args.p not
 
-pub loop-c-init : goal.loop-c-init
-unfolding is_done passes allb counting every_chare
-loop-c-init c =
-    (search rules, search rules, rw (sym c.is_catching_up.ensures ∙ c.if-not-is_catching_up.false) (allb_keep _ _ every_chare))
-
-pub returns-then-not-passes : goal.returns-then-not-passes
-returns-then-not-passes c =
-    let l = c.loop-c in
-    each_miss _ 13 l.c _ l.invariant.2 (omega arith) (sym c.passes.ensures ∙ c.if-not-passes.true)
-
-pub loop-c-preserved : goal.loop-c-preserved
-loop-c-preserved c =
-    let l = c.loop-c in
-    (search rules, search rules, each_hit _ 13 l.c _ l.invariant.2 (omega arith) (sym c.passes.ensures ∙ c.if-not-passes.false))
-
-pub returns : goal.returns
-returns c =
-    let l = c.loop-c in
-    each_end _ 13 l.c _ l.invariant.2 (omega arith)
+pub returns-then-eq : goal.returns-then-eq
+returns-then-eq c =
+    let s = c.args.s.now in
+    let p = c.args.p in
+    let e : status_of s p ≡ CatchingUp = grind (arith, common_steps) in
+    let yes : c.all.result ≡ true → (k : ℕ) → 1 ≤ k → k ≤ 12 → passes (view s) p k ≡ true = λ t k l r. let seen : get_or s k 0 ≡ get_or s k 0 = refl in grind (arith, common_steps, ranges) in
+    let no : c.all.result ≡ false → (k : ℕ) × (1 ≤ k) × (k ≤ 12) × (passes (view s) p k ≡ false) = λ f. grind (arith, common_steps, ranges) in
+    either c.all.result (λ t. t ∙ all_done s p e (yes t)) (λ f. f ∙ one_left s p e (no f))

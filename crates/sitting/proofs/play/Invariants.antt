@@ -1,11 +1,7 @@
-use Rattle.std.specs.Prelude.{◌≡◌, length}
+use Rattle.std.specs.Prelude.{◌≡◌, List, ℕ, length}
 use Rattle.store.specs.View.{view}
-use Rattle.transcript.specs.View.{reading}
-use Rattle.sitting.specs.Turns.{Goes_on, Played}
+use Rattle.transcript.specs.{Reading.read_all, View.reading}
 use Rattle.sitting.proofs.play.Given as goal
 
-abbrev pub invariant-loop-turns : goal.invariant-loop-turns
-invariant-loop-turns l = (length l.input ≡ length l.initial.input) × (length l.out ≡ length l.initial.out) × Goes_on (reading l.initial.s l.initial.line 0) l.more (reading l.s l.line l.len) × Played (reading l.initial.s l.initial.line 0) (view l.s)
-
-abbrev pub decreases-loop-turns : goal.decreases-loop-turns
-decreases-loop-turns l = l.turns
+abbrev pub invariant-loop : goal.invariant-loop
+invariant-loop l = (bytes : List ℕ) × (reading l.s l.line l.len ≡ read_all (reading l.initial.s l.initial.line 0) bytes)

@@ -1,26 +1,12 @@
-use Rattle.std.specs.Prelude.{refl}
-use Rattle.std.proofs.Common.{arith, sym, ap, ◌∙◌, eq-eqb, ne_eqb, rules}
-use Rattle.item.specs.Held.{held_next, held_miss, held_end}
-use Rattle.tickets.specs.Table.{entry_of, as_entry, entries}
+use Rattle.std.proofs.Common.{◌∙◌, rules, tests}
+use Rattle.std.proofs.lemmas.Iterator.{YieldsList-from_slice}
+use Rattle.std.proofs.lemmas.Iterator.Search.{any_from_yields_List}
 use Rattle.protocol.specs.Tickets.{has_tn}
-use Rattle.lists.specs.Lists.{anyb}
+use Rattle.tickets.specs.{Table.{entry_of, as_entry}, Read.read_any}
 use Rattle.tickets.proofs.has_tn.Goals as goal
 
-pub loop-i-init : goal.loop-i-init
-loop-i-init c = (search rules, refl)
-
-pub returns-then-tn : goal.returns-then-tn
-unfolding entries entry_of as_entry anyb has_tn
-returns-then-tn c =
-    let l = c.loop-i in
-    sym (l.invariant.1 ∙ ap (anyb _) (held_next entry_of _ l.i (omega arith)) ∙ rw (eq-eqb _ _ (sym c.tn.ensures ∙ c.if-tn.true)))
-
-pub loop-i-preserved : goal.loop-i-preserved
-unfolding entries entry_of as_entry has_tn
-loop-i-preserved c =
-    let l = c.loop-i in
-    (search rules, l.invariant.1 ∙ held_miss entry_of _ l.i (has_tn _) (omega arith) (ne_eqb _ _ (λ q. c.if-tn.false (c.tn.ensures ∙ q))))
-
 pub returns : goal.returns
-unfolding entries anyb
-returns c = let l = c.loop-i in sym (l.invariant.1 ∙ ap (anyb _) (held_end entry_of _ l.i (omega arith)))
+unfolding has_tn entry_of as_entry
+returns c =
+    any_from_yields_List (λ w. has_tn c.args.tn (entry_of w)) _ _ _ c.any.ensures.ran (YieldsList-from_slice c.items.result.now (cc)) (λ x b q k. search (rules, tests))
+    ∙ read_any _ _ c.items.ensures _

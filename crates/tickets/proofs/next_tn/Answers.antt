@@ -1,14 +1,12 @@
 use Rattle.std.specs.Prelude.{◌+◌}
-use Rattle.std.proofs.Common.{sym, ap, ◌∙◌}
+use Rattle.std.proofs.Common.{ap, ◌∙◌}
 use Rattle.protocol.specs.Tickets.{next_tn, hole_or}
-use Rattle.tickets.specs.Table.{found_hole}
 use Rattle.tickets.proofs.next_tn.Goals as goal
 
-pub returns-in-At : goal.returns-in-At
-unfolding found_hole next_tn hole_or
-returns-in-At c = rw (sym (sym (ap found_hole c.in-At.is) ∙ c.lowest_hole.ensures))
+pub returns-in-Some : goal.returns-in-Some
+unfolding next_tn hole_or
+returns-in-Some c = rw (← c.in-Some.ensures) c.from.ensures
 
-pub returns-in-Nothing : goal.returns-in-Nothing
-unfolding found_hole next_tn hole_or
-returns-in-Nothing c =
-    ap (λ h. h + 1) c.highest.ensures ∙ rw (sym (sym (ap found_hole c.in-Nothing.is) ∙ c.lowest_hole.ensures))
+pub returns-in-None : goal.returns-in-None
+unfolding next_tn hole_or
+returns-in-None c = rw (← c.in-None.ensures) (ap (◌+ 1) (c.from-in-None.ensures ∙ c.highest.ensures))

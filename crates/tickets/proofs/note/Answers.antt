@@ -1,20 +1,16 @@
 use Rattle.std.proofs.Common.{ap, ◌∙◌, arith, rules}
-use Rattle.protocol.specs.Tickets.{for_message, mark_noted}
-use Rattle.item.specs.Both.{both_changed, both_same}
-use Rattle.tickets.specs.{Table.{entry_of, as_entry, packed, entries}, EntryLaws.{by_name, packed_note}}
+use Rattle.protocol.specs.Tickets.{mark_noted}
+use Rattle.tickets.specs.{Table.{entry_of, packed}, Change.{note_there, note_none}}
 use Rattle.tickets.proofs.note.Goals as goal
 
-pub returns-then-i-count : goal.returns-then-i-count
-unfolding entries entry_of
-returns-then-i-count c =
-    record {
-      row = (both_changed as_entry (for_message _ _) mark_noted (λ x. packed (mark_noted (as_entry x))) packed_note _ (by_name _ _ (search rules)) _ _ c.seek-i.ensures _ c.write.ensures (omega arith)
-          (c.noted-w.ensures ∙ ap (λ x. packed (mark_noted (entry_of x))) c.read.ensures)).0;
-      words = (both_changed as_entry (for_message _ _) mark_noted (λ x. packed (mark_noted (as_entry x))) packed_note _ (by_name _ _ (search rules)) _ _ c.seek-i.ensures _ c.write.ensures (omega arith)
-          (c.noted-w.ensures ∙ ap (λ x. packed (mark_noted (entry_of x))) c.read.ensures)).1;
-    }
+pub returns-in-Some : goal.returns-in-Some
+returns-in-Some c =
+    let a = c.args in
+    let p = note_there a.ws.now a.sender a.sn (search rules) c.in-Some.i c.in-Some.ensures.is c.noted-w.result c.write.ensures c.in-Some.ensures.within (c.noted-w.ensures ∙ ap (λ w. packed (mark_noted (entry_of w))) c.read.ensures) in
+    record { row = p.0; words = p.1 }
 
-pub returns-else-i-count : goal.returns-else-i-count
-unfolding entries entry_of
-returns-else-i-count c =
-    record { row = (both_same as_entry (for_message _ _) mark_noted (λ x. packed (mark_noted (as_entry x))) packed_note _ (by_name _ _ (search rules)) _ _ c.seek-i.ensures (omega arith)).0; words = (both_same as_entry (for_message _ _) mark_noted (λ x. packed (mark_noted (as_entry x))) packed_note _ (by_name _ _ (search rules)) _ _ c.seek-i.ensures (omega arith)).1 }
+pub returns-in_default : goal.returns-in_default
+returns-in_default c =
+    let a = c.args in
+    let p = note_none a.ws.now a.sender a.sn (search rules) _ c.in_default.ensures.is (omega arith) in
+    record { row = p.0; words = p.1 }

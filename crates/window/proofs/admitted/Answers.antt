@@ -1,15 +1,14 @@
--- `admitted`, by the reply.
-use Rattle.protocol.specs.Window.{admitted}
+use Rattle.std.proofs.Common.{◌≡◌, true, ℕ, refl}
+use Rattle.protocol.specs.{declared.Seen.Seen, declared.Seen.TheVariants.{Worked, Open, Beyond}, Window.{admitted}}
 use Rattle.window.proofs.admitted.Goals as goal
+use Rattle.window.proofs.admitted.Goals.{in-Beyond, in_default}
 
-pub returns-in-Worked : goal.returns-in-Worked
+near : (x : Seen) → ((by : ℕ) → x ≡ Beyond by → ⊥) → true ≡ admitted x
 unfolding admitted
-returns-in-Worked c = rw c.in-Worked.is
+near Worked n = refl
+near Open n = refl
+near (Beyond by) n = absurd (n by refl)
 
-pub returns-in-Open : goal.returns-in-Open
+pub returns : goal.returns
 unfolding admitted
-returns-in-Open c = rw c.in-Open.is
-
-pub returns-in-Beyond : goal.returns-in-Beyond
-unfolding admitted
-returns-in-Beyond c = rw c.in-Beyond.is
+returns c = elim c.match-matches.branch [ in-Beyond w ↦ rw (w.matches-is, w.in-Beyond.is) | in_default w ↦ rw w.matches-is (near _ w.in_default.not-Beyond) ]

@@ -14,7 +14,7 @@ not_open Open n = absurd (n refl)
 not_open (Beyond by) n = refl
 
 pub returns-in_default : goal.returns-in_default
-returns-in_default c = kept _ _ _ (ap is_open (sym c.look.ensures) ∙ not_open _ c.in_default.not-Open)
+returns-in_default c = rw c.from.ensures (kept _ _ _ (ap is_open (sym c.look.ensures) ∙ not_open _ c.in_default.not-Open))
 
 pub overflow_sub-n : goal.overflow_sub-n
 unfolding is_open
@@ -36,4 +36,4 @@ overflow_add-result c = omega (arith, run_top _ _ c.run-t.ensures)
 pub returns : goal.returns
 unfolding is_open
 returns c =
-    taken _ _ _ (ap is_open (sym c.look.ensures ∙ c.in-Open.is)) c.set-v.result c.shift.result c.run-t.result c.set-v.ensures c.run-t.ensures c.shift.ensures
+    rw c.from-2.ensures (taken _ _ _ (ap is_open (sym c.look.ensures ∙ c.in-Open.is)) c.set-v.result c.shift.result c.run-t.result c.set-v.ensures c.run-t.ensures c.shift.ensures)

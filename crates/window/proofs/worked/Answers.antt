@@ -1,15 +1,14 @@
--- `worked`, by the reply.
-use Rattle.protocol.specs.Window.{worked}
+use Rattle.std.proofs.Common.{◌≡◌, Bool, true, false, rules, refl}
+use Rattle.protocol.specs.{declared.Seen.Seen, declared.Seen.TheVariants.{Worked, Open, Beyond}, Window.{worked}}
 use Rattle.window.proofs.worked.Goals as goal
 
-pub returns-in-Worked : goal.returns-in-Worked
+same : (x : Seen) (b : Bool) → (b ≡ true → x ≡ Worked) → (x ≡ Worked → b ≡ true) → b ≡ worked x
 unfolding worked
-returns-in-Worked c = rw c.in-Worked.is
+same Worked b p q = q refl
+same Open true p q = let e = p refl in cc
+same Open false p q = refl
+same (Beyond by) true p q = let e = p refl in cc
+same (Beyond by) false p q = refl
 
-pub returns-in-Open : goal.returns-in-Open
-unfolding worked
-returns-in-Open c = rw c.in-Open.is
-
-pub returns-in-Beyond : goal.returns-in-Beyond
-unfolding worked
-returns-in-Beyond c = rw c.in-Beyond.is
+pub returns : goal.returns
+returns c = same c.args.x c.eq.result (search rules) (search rules)

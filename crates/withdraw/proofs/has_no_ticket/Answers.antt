@@ -1,18 +1,18 @@
 -- `has_no_ticket`: an entry, or none.
-use Rattle.std.proofs.Common.{ap, sym, ◌∙◌}
-use Rattle.protocol.specs.{Tickets.entry, Questions.no_entry}
-use Rattle.tickets.specs.Table.{found_entry}
+use Rattle.std.specs.Prelude.{◌≡◌, refl, Bool, not, Option, None, Some}
+use Rattle.std.specs.Option.{is_some}
+use Rattle.std.proofs.Common.{sym, ap, ◌∙◌, rules, tests}
+use Rattle.lists.specs.Options.{maybe}
+use Rattle.protocol.specs.{declared.Entry.Entry, Tickets.entry, Questions.no_entry}
 use Rattle.memory.specs.View.{table_part}
 use Rattle.withdraw.proofs.has_no_ticket.Goals as goal
 
-pub returns-in-Nothing : goal.returns-in-Nothing
-unfolding no_entry found_entry
-returns-in-Nothing c =
-    let a = c.args in
-    sym (ap no_entry (ap (λ l. entry l 0 a.n) (table_part a.m.now) ∙ sym c.find.ensures ∙ ap found_entry c.in-Nothing.is))
+none_there : (o : Option Entry) (b : Bool) → is_some o ≡ not b → b ≡ no_entry (maybe o)
+unfolding no_entry
+none_there None b e = search (rules, tests)
+none_there (Some x) b e = search (rules, tests)
 
-pub returns-in-At : goal.returns-in-At
-unfolding no_entry found_entry
-returns-in-At c =
+pub returns : goal.returns
+returns c =
     let a = c.args in
-    sym (ap no_entry (ap (λ l. entry l 0 a.n) (table_part a.m.now) ∙ sym c.find.ensures ∙ ap found_entry c.in-At.is))
+    none_there c.find.result _ c.is_none.ensures ∙ ap no_entry (c.find.ensures ∙ sym (ap (λ l. entry l 0 a.n) (table_part a.m.now)))

@@ -1,12 +1,12 @@
-use Rattle.std.proofs.Common.{arith, rules}
+use Rattle.std.proofs.Common.{◌≡◌, get_or, ap, arith}
 use Rattle.words.specs.Rows.{row_length}
 use Rattle.words.proofs.count.Goals as goal
 
-pub returns-then-ws-eq0 : goal.returns-then-ws-eq0
-returns-then-ws-eq0 c = let l = row_length c.args.ws.now in record { is = omega arith; within = omega arith }
+pub returns-in-Some-clause-is : goal.returns-in-Some-clause-is
+returns-in-Some-clause-is c =
+    let split = c.in-Some.ensures.cases in
+    let first : get_or c.args.ws.now 0 0 ≡ c.in-Some.field-0-0.now = ap (λ ws. get_or ws 0 0) split.0 in
+    omega (arith, row_length c.args.ws.now)
 
-pub returns-then-n-room : goal.returns-then-n-room
-returns-then-n-room c = let l = row_length c.args.ws.now in record { is = omega arith; within = omega arith }
-
-pub returns : goal.returns
-returns c = let l = row_length c.args.ws.now in record { is = omega arith; within = omega arith }
+pub returns-in-None-clause-is : goal.returns-in-None-clause-is
+returns-in-None-clause-is c = let none = c.in-None.ensures.cases in omega (arith, none, row_length c.args.ws.now)

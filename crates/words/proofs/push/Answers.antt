@@ -1,4 +1,4 @@
-use Rattle.std.proofs.Common.{arith, rules, lt-length-set}
+use Rattle.std.proofs.Common.{arith, lt-length-set}
 use Rattle.words.specs.{Rows.{row, row_full}, Becomes.{becomes_push, becomes_same}}
 use Rattle.words.proofs.push.Goals as goal
 

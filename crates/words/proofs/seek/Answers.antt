@@ -1,18 +1,13 @@
-use Rattle.std.specs.Prelude.{drop, ◌+◌, ◌-◌, ◌≤◌, ◌≡◌}
-use Rattle.std.proofs.Common.{eq-eqb, ne_eqb, arith, rules}
-use Rattle.words.specs.Rows.{row, named, seek_hit, seek_miss, seek_end}
-use Rattle.arrays.specs.Place.{place, place_start}
+use Rattle.std.proofs.Common.{rules}
+use borrow.Author.Tests.{tests}
+use Rattle.std.proofs.lemmas.Iterator.{YieldsList-from_slice}
+use Rattle.std.proofs.lemmas.Iterator.Search.{position_from_yields_List}
+use Rattle.words.specs.Rows.{row, named}
+use Rattle.words.specs.Seek.{position_place}
 use Rattle.words.proofs.seek.Goals as goal
 
-pub loop-i-init : goal.loop-i-init
-loop-i-init c = (search rules, place_start _ _)
-
-pub returns-then-ws-i : goal.returns-then-ws-i
-returns-then-ws-i c = seek_hit _ _ _ c.loop-i.invariant.1 (omega arith) (unfold named in eq-eqb _ _ c.if-ws-i.true)
-
-pub loop-i-preserved : goal.loop-i-preserved
-loop-i-preserved c =
-    (search rules, seek_miss _ _ _ c.loop-i.invariant.1 (omega arith) (unfold named in ne_eqb _ _ c.if-ws-i.false))
-
-pub returns : goal.returns
-returns c = seek_end _ _ _ c.loop-i.invariant.1 (omega arith)
+pub returns-clause-is : goal.returns-clause-is
+unfolding named
+returns-clause-is c =
+    position_place (named c.args.peer c.args.sn) (row c.args.ws.now)
+    (position_from_yields_List (named c.args.peer c.args.sn) _ _ _ c.position.ensures.ran (YieldsList-from_slice (row c.args.ws.now) (cc)) (λ x b q k. search (rules, tests)))

@@ -1,4 +1,4 @@
-use Rattle.std.proofs.Common.{sym, arith, rules}
+use Rattle.std.proofs.Common.{sym, arith}
 use Rattle.std.proofs.Math.Seq.{set_out}
 use Rattle.words.specs.{Rows.row, Becomes.{becomes_set, becomes_same}}
 use Rattle.words.proofs.write.Goals as goal

@@ -4,35 +4,40 @@ use Rattle.protocol.specs.Job.{machines_of, job_of}
 use Rattle.crashsets.specs.Machines.{few, words_end}
 use Rattle.crashsets.proofs.Tallies.{none_passed, other_size, one_survived, one_lost, all_passed}
 use Rattle.crashsets.proofs.sets.count.Goals as goal
+use Rattle.crashsets.proofs.sets.count.Goals.{then-set-f+then-survives, then-set-f+else-survives, else-set-f}
 
-pub overflow_shl-end : goal.overflow_shl-end
+pub overflow_shl-set-end : goal.overflow_shl-set-end
 unfolding machines_of
-overflow_shl-end c = omega (arith, c.byte-m.ensures, few _ c.requires)
+overflow_shl-set-end c = omega (arith, c.byte.ensures, few _ c.requires)
 
-pub survives-requires : goal.survives-requires
-survives-requires c = c.requires
+pub loop-set-init : goal.loop-set-init
+loop-set-init c = none_passed _ _
 
-pub loop-word-init : goal.loop-word-init
+pub overflow_add-total : goal.overflow_add-total
 unfolding machines_of
-loop-word-init c = let e = words_end _ c.requires _ c.byte-m.ensures in (e.0, e.1, none_passed _ _)
+overflow_add-total c = let e = words_end _ c.requires _ c.byte.ensures in omega arith
 
-pub loop-word-preserved-then-survives : goal.loop-word-preserved-then-survives
-unfolding job_of
-loop-word-preserved-then-survives c =
-    let l = c.loop-word in
-    (l.invariant.0, l.invariant.1, one_survived _ _ _ _ _ l.invariant.2 (omega arith) (omega arith) (sym c.survives.ensures ∙ c.if-survives.true))
+pub overflow_add-survived : goal.overflow_add-survived
+unfolding machines_of
+overflow_add-survived c = let e = words_end _ c.requires _ c.byte.ensures in omega arith
 
-pub loop-word-preserved-else-survives : goal.loop-word-preserved-else-survives
-unfolding job_of
-loop-word-preserved-else-survives c =
-    let l = c.loop-word in
-    (l.invariant.0, l.invariant.1, one_lost _ _ _ _ _ l.invariant.2 (omega arith) (omega arith) (sym c.survives.ensures ∙ c.if-survives.false))
-
-pub loop-word-preserved : goal.loop-word-preserved
-loop-word-preserved c =
-    let l = c.loop-word in
-    (l.invariant.0, l.invariant.1, other_size _ _ _ _ _ l.invariant.2 (omega arith) (omega arith))
+pub loop-set-preserved : goal.loop-set-preserved
+unfolding machines_of job_of
+loop-set-preserved c =
+    let l = c.loop-set in
+    let e = words_end _ c.requires _ c.byte.ensures in
+    elim c.if-set-f.branch [
+      | then-set-f+then-survives w ↦
+          rw (w.total-is, w.survived-is) (one_survived _ _ _ _ _ l.invariant (omega arith) (omega arith) (sym w.survives.ensures ∙ w.if-survives.true))
+      | then-set-f+else-survives w ↦
+          rw (w.total-is, w.survived-is) (one_lost _ _ _ _ _ l.invariant (omega arith) (omega arith) (sym w.survives.ensures ∙ w.if-survives.false))
+      | else-set-f w ↦ rw (w.total-is, w.survived-is) (other_size _ _ _ _ _ l.invariant (omega arith) (omega arith))
+    ]
 
 pub returns : goal.returns
+unfolding machines_of
 returns c =
-    let l = c.loop-word in record { all = (all_passed _ _ _ _ _ l.invariant.2 (omega arith)).0; good = (all_passed _ _ _ _ _ l.invariant.2 (omega arith)).1 }
+    let l = c.loop-set in
+    let e = words_end _ c.requires _ c.byte.ensures in
+    let all = all_passed _ _ _ _ _ l.invariant (omega arith) in
+    record { all = all.0; good = all.1 }

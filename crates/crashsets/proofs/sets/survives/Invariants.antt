@@ -1,14 +1,11 @@
-use Rattle.std.specs.Prelude.{◌≡◌, ◌≤◌, not}
-use Rattle.lists.specs.Lists.{allb}
+use Rattle.std.specs.Prelude.{◌≡◌, ◌+◌, ◌-◌, ◌≤◌}
+use Rattle.arrays.specs.Loops.{each}
 use Rattle.protocol.specs.Job.{machines_of, job_of}
 use Rattle.frames.specs.Decode.{decoded}
-use Rattle.crashsets.specs.{CrashSets.{survives, stands}, Words.set_of}
+use Rattle.crashsets.specs.{CrashSets.survives, Words.set_of, Together.alone}
 use Rattle.crashsets.proofs.sets.survives.Given as goal
 
 abbrev pub invariant-loop-p : goal.invariant-loop-p
-invariant-loop-p l = let j = job_of (decoded l.line) in
-    let s = set_of (machines_of (decoded l.line)) l.set in
-    (l.p ≤ machines_of (decoded l.line)) × (survives j s ≡ allb (λ q. not (stands s (j.buddy q))) (set_of l.p l.set))
-
-abbrev pub decreases-loop-p : goal.decreases-loop-p
-decreases-loop-p l = l.p
+invariant-loop-p l = let b = decoded l.line in
+    let m = machines_of b in
+    (1 ≤ l.p) × (survives (job_of b) (set_of m l.set) ≡ each (alone b l.set) (m + 1 - l.p) l.p)

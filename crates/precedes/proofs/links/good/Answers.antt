@@ -5,22 +5,14 @@ use Rattle.precedes.proofs.links.good.Goals as goal
 
 pub returns-then-p-eq0 : goal.returns-then-p-eq0
 unfolding admits
-returns-then-p-eq0 c = rw (not_ranged c.args.p (λ h. omega (arith, h.0, c.if-p-eq0.true)))
+returns-then-p-eq0 c = rw (not_ranged c.args.p (λ h. grind arith))
 
-pub returns-then-p-gt12 : goal.returns-then-p-gt12
+pub returns-then-is_sent : goal.returns-then-is_sent
 unfolding admits
-returns-then-p-gt12 c = rw (not_ranged c.args.p (λ h. omega (arith, h.1, c.if-p-gt12.true)))
+returns-then-is_sent c =
+    rw (ranged c.args.p (omega arith) (omega arith) (omega arith), sym c.is_sent.ensures, c.if-is_sent.true) c.is_next.ensures
 
-pub returns-then-p-gt12-2 : goal.returns-then-p-gt12-2
+pub returns-else-is_sent : goal.returns-else-is_sent
 unfolding admits
-returns-then-p-gt12-2 c = rw (not_ranged c.args.p (λ h. omega (arith, h.2, c.if-p-gt12-2.true)))
-
-pub returns-then-not-is_sent : goal.returns-then-not-is_sent
-unfolding admits
-returns-then-not-is_sent c =
-    rw (ranged c.args.p (omega arith) c.if-p-gt12.false c.if-p-gt12-2.false, sym c.if-not-is_sent.ensures)
-
-pub returns : goal.returns
-unfolding admits
-returns c =
-    rw (ranged c.args.p (omega arith) c.if-p-gt12.false c.if-p-gt12-2.false, sym c.if-not-is_sent.ensures) c.is_next.ensures
+returns-else-is_sent c =
+    rw (ranged c.args.p (omega arith) (omega arith) (omega arith), sym c.is_sent.ensures, c.if-is_sent.false)

@@ -1,34 +1,36 @@
 -- `resend` goes by where receiver and sender are.
+use Rattle.std.specs.Prelude.{refl}
 use Rattle.std.proofs.Common.{arith}
 use Rattle.restart.specs.{OnMachine.{home_at, on_last}, Resends.{packets_of, again}}
 use Rattle.restart.proofs.resend.resend.Goals as goal
 
-pub returns-then-here : goal.returns-then-here
-unfolding again packets_of
-returns-then-here c =
-    let a = c.args in
-    rw (c.if-here.true, home_at a.s.now a.p a.x.message.receiver _ _ c.on.ensures c.if-on.true)
-
 pub height_back-requires : goal.height_back-requires
 height_back-requires c =
     let a = c.args in
-    (c.requires.0, on_last a.s.now (omega arith) a.p c.requires.1 a.x.message.receiver (home_at a.s.now a.p a.x.message.receiver _ _ c.on.ensures c.if-on.true))
+    let to = a.x.message.receiver in
+    on_last a.s.now (omega arith) a.p c.requires to (home_at a.s.now a.p to _ _ c.in-false-true.ensures refl)
 
-pub returns-then-on : goal.returns-then-on
+pub returns-in-true-false : goal.returns-in-true-false
 unfolding again
-returns-then-on c =
+returns-in-true-false c =
     let a = c.args in
-    let here = home_at a.s.now a.p a.x.message.receiver _ _ c.on.ensures c.if-on.true in
-    rw (c.if-here.false, here, ← c.height_back.ensures) c.from_elsewhere.ensures
+    rw (c.in-true-false.is-0, home_at a.s.now a.p a.x.message.receiver _ _ c.in-true-false.ensures refl) c.from_here.ensures
 
-pub returns-then-here-2 : goal.returns-then-here-2
+pub returns-in-false-true : goal.returns-in-false-true
 unfolding again
-returns-then-here-2 c =
+returns-in-false-true c =
     let a = c.args in
-    rw (c.if-here-2.true, home_at a.s.now a.p a.x.message.receiver _ _ c.on.ensures c.if-on.false) c.from_here.ensures
+    let here = home_at a.s.now a.p a.x.message.receiver _ _ c.in-false-true.ensures refl in
+    rw (c.in-false-true.is-0, here, ← c.height_back.ensures) c.from_elsewhere.ensures
 
-pub returns : goal.returns
+pub returns-in-true-true : goal.returns-in-true-true
 unfolding again packets_of
-returns c =
+returns-in-true-true c =
     let a = c.args in
-    rw (c.if-here-2.false, home_at a.s.now a.p a.x.message.receiver _ _ c.on.ensures c.if-on.false)
+    rw (c.in-true-true.is-0, home_at a.s.now a.p a.x.message.receiver _ _ c.in-true-true.ensures refl)
+
+pub returns-in-false-false : goal.returns-in-false-false
+unfolding again packets_of
+returns-in-false-false c =
+    let a = c.args in
+    rw (c.in-false-false.is-0, home_at a.s.now a.p a.x.message.receiver _ _ c.in-false-false.ensures refl)

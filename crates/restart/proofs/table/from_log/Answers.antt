@@ -1,64 +1,54 @@
--- `from_log` enters the tickets of a log. The loop: the messages from i on are still to be entered.
-use Rattle.std.specs.Prelude.{refl}
-use Rattle.std.proofs.Common.{sym, ◌∙◌, arith, drop_of_length-le, rules}
-use Rattle.restart.specs.{Gather.{chosen, next}, Limited.{more_end, more_skip, more_on, more_stop}, Tables.{entering_one}, Sources.logged}
+-- `from_log` enters the tickets of a log. The loop: the messages not yet passed are still to be entered.
+use Rattle.std.proofs.Common.{sym, ◌∙◌, arith, rules}
+use Rattle.std.proofs.lemmas.Result.{err_from_is_err_and}
+use Rattle.restart.specs.{Gather.{chosen, next_item, no_item}, Limited.{more_end, more_skip, more_on, more_stop}, Tables.{entering_one}, Sources.logged}
 use Rattle.restart.specs.Words.{packed_enter}
 use Rattle.protocol.specs.Restart.{enter, ticket_of_logged}
 use Rattle.tickets.specs.Table.{entries}
-use Rattle.logs.specs.{Log.{entries as messages, logged_of}, Fits.at_fits}
+use Rattle.logs.specs.{Log.{entries as messages, logged_of}, Fits.word_fits}
 use Rattle.restart.proofs.table.from_log.Goals as goal
+use Rattle.restart.proofs.table.from_log.Goals.{then-is_above+in_ok-enter_once, else-is_above}
 
-pub loop-i-init : goal.loop-i-init
-loop-i-init c = (search rules, search rules, refl, λ h. h)
-
-pub returns-then-not-enter_once : goal.returns-then-not-enter_once
-unfolding logged ticket_of_logged chosen
-returns-then-not-enter_once c =
+pub returns-in_err-enter_once : goal.returns-in_err-enter_once
+unfolding logged ticket_of_logged chosen messages
+returns-in_err-enter_once c =
     let a = c.args in
-    let l = c.loop-i in
-    let x = c.at-x in
-    let e = c.enter_once in record {
-      row = more_stop 16 enter (logged a.c a.h) _ (entries l.row) _ l.invariant.2
-          x.result _ (next (messages a.l.now) l.i x.result (logged_of 0) x.ensures (omega arith))
-          e.result (entries e.new.ws)
-          (rw (sym c.is_above.ensures ∙ c.if-is_above.true) (entering_one l.row e.new.ws x.result.message.sender _ _ e.result l.invariant.1 (rw x.ensures (at_fits a.l.now l.i).sender) e.ensures)) c.if-not-enter_once.true;
-      words = λ h. packed_enter e.ensures (l.invariant.3 h);
-    }
+    let l = c.loop-w in
+    let x = c.unpack-x in
+    let e = c.in_err-enter_once.ensures in
+    let p = err_from_is_err_and c.from_residual.result c.from_residual.ensures.1 in
+    rw p.1 (record {
+      row = more_stop 16 enter (logged a.c a.h) _ (entries l.row) _ l.invariant.0
+          x.result _ (next_item logged_of _ _ c.items-w-items.ensures l.w-index x.result x.ensures (omega arith))
+          _ (rw (sym c.is_above.ensures ∙ c.if-is_above.true) (entering_one l.row _ x.result.message.sender _ _ _ (search rules) (rw x.ensures (word_fits _).sender) e));
+      words = λ h. packed_enter e (l.invariant.1 h);
+    })
 
-pub loop-i-preserved-else-not-enter_once : goal.loop-i-preserved-else-not-enter_once
-unfolding logged ticket_of_logged chosen
-loop-i-preserved-else-not-enter_once c =
+pub loop-w-preserved : goal.loop-w-preserved
+unfolding logged ticket_of_logged chosen messages
+loop-w-preserved c =
     let a = c.args in
-    let l = c.loop-i in
-    let x = c.at-x in
-    let e = c.enter_once in (
-      search rules,
-      search rules,
-      more_on 16 enter (logged a.c a.h) _ (entries l.row) _ l.invariant.2
-          x.result _ (next (messages a.l.now) l.i x.result (logged_of 0) x.ensures (omega arith))
-          e.result (entries e.new.ws)
-          (rw (sym c.is_above.ensures ∙ c.if-is_above.true) (entering_one l.row e.new.ws x.result.message.sender _ _ e.result l.invariant.1 (rw x.ensures (at_fits a.l.now l.i).sender) e.ensures)) c.if-not-enter_once.false,
-      λ h. packed_enter e.ensures (l.invariant.3 h),
-    )
-
-pub loop-i-preserved : goal.loop-i-preserved
-unfolding logged chosen
-loop-i-preserved c =
-    let a = c.args in
-    let l = c.loop-i in
-    let x = c.at-x in (
-      search rules,
-      search rules,
-      more_skip 16 enter (logged a.c a.h) _ (entries l.row) _ l.invariant.2
-          x.result _ (next (messages a.l.now) l.i x.result (logged_of 0) x.ensures (omega arith)) (rw (sym c.is_above.ensures ∙ c.if-is_above.false)),
-      l.invariant.3,
-    )
+    let l = c.loop-w in
+    let x = c.unpack-x in
+    let step = next_item logged_of _ _ c.items-w-items.ensures l.w-index x.result x.ensures (omega arith) in
+    elim c.if-is_above.branch [
+      | then-is_above+in_ok-enter_once w ↦
+          let e = w.in_ok-enter_once.ensures in
+          rw w.row-is (
+            more_on 16 enter (logged a.c a.h) _ (entries l.row) _ l.invariant.0 x.result _ step
+                _ (rw (sym c.is_above.ensures ∙ w.if-is_above.true) (entering_one l.row _ x.result.message.sender _ _ _ (search rules) (rw x.ensures (word_fits _).sender) e)),
+            λ h. packed_enter e (l.invariant.1 h),
+          )
+      | else-is_above w ↦
+          rw w.row-is (more_skip 16 enter (logged a.c a.h) _ (entries l.row) _ l.invariant.0 x.result _ step (rw (sym c.is_above.ensures ∙ w.if-is_above.false)), l.invariant.1)
+    ]
 
 pub returns : goal.returns
+unfolding messages
 returns c =
     let a = c.args in
-    let l = c.loop-i in
+    let l = c.loop-w in
     record {
-      row = more_end 16 enter (logged a.c a.h) _ (entries l.row) _ l.invariant.2 (drop_of_length-le (messages a.l.now) {i = l.i} (omega arith));
-      words = l.invariant.3;
+      row = more_end 16 enter (logged a.c a.h) _ (entries l.row) _ l.invariant.0 (no_item logged_of _ _ c.items-w-items.ensures l.w-index c.loop-w-test.false);
+      words = l.invariant.1;
     }

@@ -1,66 +1,58 @@
 -- `from_logs` goes through the logs. The loop: those from q on are still to be entered.
 use Rattle.std.specs.Prelude.{refl}
-use Rattle.std.proofs.Common.{arith, rules}
+use Rattle.std.proofs.Common.{arith}
+use Rattle.std.proofs.lemmas.Result.{err_from_is_err_and}
 use Rattle.lists.specs.Lists.{gather}
 use Rattle.protocol.specs.{Parts.{every_chare, every_sender}, Restart.{enter, other_log}}
 use Rattle.tickets.specs.Table.{entries}
 use Rattle.store.specs.View.{view}
-use Rattle.restart.specs.{Limited.{more_end, more_skip, more_on, more_stop}, Ranges.{count_from, range, range_next, range_past}}
+use Rattle.restart.specs.{Limited.{more_end, more_skip, more_on, more_stop}, Ranges.{range, range_next, range_past}}
 use Rattle.restart.specs.{Sources.sender_tickets, Stored.live_log, OnMachine.home_at}
 use Rattle.restart.proofs.table.from_logs.Goals as goal
+use Rattle.restart.proofs.table.from_logs.Goals.{then-not-on+in_ok-from_log, else-not-on}
 
 pub loop-q-init : goal.loop-q-init
-unfolding every_sender every_chare range count_from
-loop-q-init c = (search rules, search rules, refl, λ h. h)
+unfolding every_sender every_chare range
+loop-q-init c = (refl, λ h. h)
 
-pub returns-then-not-from_log : goal.returns-then-not-from_log
+pub returns-in_err-from_log : goal.returns-in_err-from_log
 unfolding sender_tickets other_log
-returns-then-not-from_log c =
+returns-in_err-from_log c =
     let a = c.args in
     let l = c.loop-q in
-    let f = c.from_log in
-    let there = home_at a.s.now a.p l.q _ _ c.on-here.ensures c.if-not-here.true in record {
-      row = more_stop 16 enter (sender_tickets (view a.s.now) a.p a.c a.h) _ (entries l.row) _ l.invariant.2
-          l.q _ (range_next 13 l.q (omega arith)) f.result (entries f.new.row)
-          (rw (there, live_log a.s.now l.q (omega arith)) f.ensures.row)
-          c.if-not-from_log.true;
-      words = λ h. f.ensures.words (l.invariant.3 h);
-    }
-
-pub loop-q-preserved-else-not-from_log : goal.loop-q-preserved-else-not-from_log
-unfolding sender_tickets other_log
-loop-q-preserved-else-not-from_log c =
-    let a = c.args in
-    let l = c.loop-q in
-    let f = c.from_log in
-    let there = home_at a.s.now a.p l.q _ _ c.on-here.ensures c.if-not-here.true in (
-      search rules,
-      search rules,
-      more_on 16 enter (sender_tickets (view a.s.now) a.p a.c a.h) _ (entries l.row) _ l.invariant.2
-          l.q _ (range_next 13 l.q (omega arith)) f.result (entries f.new.row)
-          (rw (there, live_log a.s.now l.q (omega arith)) f.ensures.row)
-          c.if-not-from_log.false,
-      λ h. f.ensures.words (l.invariant.3 h),
-    )
+    let f = c.in_err-from_log.ensures in
+    let p = err_from_is_err_and c.from_residual.result c.from_residual.ensures.1 in
+    let there = home_at a.s.now a.p l.q _ _ c.on.ensures c.if-not-on.true in
+    rw p.1 (record {
+      row = more_stop 16 enter (sender_tickets (view a.s.now) a.p a.c a.h) _ (entries l.row) _ l.invariant.0
+          l.q _ (range_next 13 l.q (omega arith)) _ (rw (there, live_log a.s.now l.q (omega arith)) f.row);
+      words = λ h. f.words (l.invariant.1 h);
+    })
 
 pub loop-q-preserved : goal.loop-q-preserved
 unfolding sender_tickets other_log gather
 loop-q-preserved c =
     let a = c.args in
     let l = c.loop-q in
-    let here = home_at a.s.now a.p l.q _ _ c.on-here.ensures c.if-not-here.false in (
-      search rules,
-      search rules,
-      more_skip 16 enter (sender_tickets (view a.s.now) a.p a.c a.h) _ (entries l.row) _ l.invariant.2
-          l.q _ (range_next 13 l.q (omega arith)) (rw here),
-      l.invariant.3,
-    )
+    let step = range_next 13 l.q (omega arith) in
+    elim c.if-not-on.branch [
+      | then-not-on+in_ok-from_log w ↦
+          let there = home_at a.s.now a.p l.q _ _ c.on.ensures w.if-not-on.true in
+          let f = w.in_ok-from_log.ensures in
+          rw w.row-is (
+            more_on 16 enter (sender_tickets (view a.s.now) a.p a.c a.h) _ (entries l.row) _ l.invariant.0 l.q _ step _ (rw (there, live_log a.s.now l.q (omega arith)) f.row),
+            λ h. f.words (l.invariant.1 h),
+          )
+      | else-not-on w ↦
+          let here = home_at a.s.now a.p l.q _ _ c.on.ensures w.if-not-on.false in
+          rw w.row-is (more_skip 16 enter (sender_tickets (view a.s.now) a.p a.c a.h) _ (entries l.row) _ l.invariant.0 l.q _ step (rw here), l.invariant.1)
+    ]
 
 pub returns : goal.returns
 returns c =
     let a = c.args in
     let l = c.loop-q in
     record {
-      row = more_end 16 enter (sender_tickets (view a.s.now) a.p a.c a.h) _ (entries l.row) _ l.invariant.2 (range_past 13 l.q (omega arith));
-      words = l.invariant.3;
+      row = more_end 16 enter (sender_tickets (view a.s.now) a.p a.c a.h) _ (entries l.row) _ l.invariant.0 (range_past 13 l.q (omega arith));
+      words = l.invariant.1;
     }

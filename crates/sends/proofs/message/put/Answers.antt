@@ -1,6 +1,6 @@
 -- `put`: a packet more at the end of the wire, or the wire as it was.
 use Rattle.std.specs.Prelude.{length, ◌-◌, ◌<◌, ◌≡◌, refl}
-use Rattle.std.proofs.Common.{arith, ◌∙◌, rules}
+use Rattle.std.proofs.Common.{arith, ◌∙◌, rules, inl, inr}
 use Rattle.sends.specs.{Ticket.{wire_by, to_words}, InMemory.about_fits}
 use Rattle.words.specs.Becomes.{becomes_same, becomes_as}
 use Rattle.packets.specs.Words.{fit_content, packets}
@@ -17,11 +17,6 @@ returns-in-Remote c =
       words = c.join.ensures.words ∙ rw (n, c.about.ensures);
     })
 
-pub returns-in-Found : goal.returns-in-Found
-returns-in-Found c =
-    unfold to_words wire_by in
-    rw c.in-Found.is (record { row = becomes_same packets _ refl; words = refl })
-
 pub returns-in-New : goal.returns-in-New
 unfolding wire_by to_words fit_content
 returns-in-New c =
@@ -32,6 +27,8 @@ returns-in-New c =
       words = c.join-in-New.ensures.words ∙ rw (n, c.about-in-New.ensures);
     })
 
-pub returns-in-TooHigh : goal.returns-in-TooHigh
-returns-in-TooHigh c =
-    unfold wire_by to_words in rw c.in-TooHigh.is (record { row = becomes_same packets _ refl; words = refl })
+pub returns-in-Found : goal.returns-in-Found
+returns-in-Found c = elim c.in-Found.is [
+  | inl e ↦ unfold wire_by to_words in rw e.1 (record { row = becomes_same packets _ refl; words = refl })
+  | inr e ↦ unfold wire_by to_words in rw e (record { row = becomes_same packets _ refl; words = refl })
+]

@@ -1,10 +1,11 @@
-use Rattle.std.proofs.Common.{arith, rules}
+use Rattle.std.proofs.Common.{arith, rules, inl, inr}
 use Rattle.sends.specs.{InMemory.{ticket_found, ticket_new}, Ticket.table_by}
 use Rattle.protocol.specs.Sending.{local_entry}
 use Rattle.sends.proofs.ticket.take_ticket.Goals as goal
 
 pub returns-in-Remote : goal.returns-in-Remote
-returns-in-Remote c = unfold table_by in rw c.in-Remote.is
+unfolding table_by
+returns-in-Remote c = elim c.in-Remote.is [ inl e ↦ rw e | inr e ↦ rw e ]
 
 pub returns-in-Found : goal.returns-in-Found
 returns-in-Found c =
@@ -16,6 +17,3 @@ returns-in-New c =
     let a = c.args in
     unfold local_entry in
     rw c.in-New.is (ticket_new a.y.now c.push.new.ws (search rules) (omega arith) a.m _ (search rules) (search rules) c.push.ensures.row.items)
-
-pub returns-in-TooHigh : goal.returns-in-TooHigh
-returns-in-TooHigh c = unfold table_by in rw c.in-TooHigh.is

@@ -1,0 +1,15 @@
+-- The numbers that a job's line has of a chare.
+use Rattle.std.specs.Prelude.{cond, List, ℕ}
+use Rattle.protocol.specs.Job.{has_chare, chare_byte}
+use Rattle.jobline.specs.declared.Number.{Number}
+use Rattle.jobline.specs.declared.Number.TheVariants.{Home, First, Second}
+
+-- which of the three it is
+abbrev pub place_of : Number → ℕ
+place_of Home = 0
+place_of First = 1
+place_of Second = 2
+
+-- the i-th number of chare c, 0 where there is no such chare
+unfoldable pub number_of : List ℕ → ℕ → ℕ → ℕ
+number_of b i c = cond (has_chare b c) (chare_byte b c i) 0
