@@ -18,7 +18,7 @@ module _ (x : Note) (w : ℕ) where
       (λ e. let (s, r, n, t) = and4 (eqb x.sender (item_of w).owner) _ _ _ e in absurd (d (eqb-true _ _ s) (eqb-true _ _ r) (eqb-true _ _ n) (eqb-true _ _ t)))
       (λ e. e)
 
-  same_word : x.sn < 65536 → x.receiver < 16 → x.sender < 16 → w % KIND ≡ x.sn + PEER * x.receiver + OWNER * x.sender → (item_of w).tn ≡ x.tn → same_note x (note_of w) ≡ true
+  pub same_word : x.sn < 65536 → x.receiver < 16 → x.sender < 16 → w % KIND ≡ x.sn + PEER * x.receiver + OWNER * x.sender → (item_of w).tn ≡ x.tn → same_note x (note_of w) ≡ true
   unfolding same_note note_of as_note item_of
   same_word hn hr hs e t =
       let a : x.sender ≡ w / OWNER % 16 = omega arith in
@@ -26,7 +26,7 @@ module _ (x : Note) (w : ℕ) where
       let c : x.sn ≡ w % PEER = omega arith in
       rw (eq-eqb _ _ a, eq-eqb _ _ b, eq-eqb _ _ c, eq-eqb _ _ (sym t))
 
-  other_name : (w % KIND ≡ x.sn + PEER * x.receiver + OWNER * x.sender → ⊥) → same_note x (note_of w) ≡ false
+  pub other_name : (w % KIND ≡ x.sn + PEER * x.receiver + OWNER * x.sender → ⊥) → same_note x (note_of w) ≡ false
   unfolding item_of
   other_name d = differs (λ s r n t. d (omega arith))
 

@@ -23,7 +23,7 @@ unfoldable pub named : ℕ → ℕ → ℕ → Bool
 named peer sn w = eqb (w % OWNER) (sn + PEER * peer)
 
 module _ {A : Type 0} where
-  without_last : (l : List A) (j : ℕ) → length l ≤ j + 1 → without j l ≡ take j l
+  pub without_last : (l : List A) (j : ℕ) → length l ≤ j + 1 → without j l ≡ take j l
   unfolding without
   without_last l j h = rw (drop_of_length-le l {i = suc j} (omega arith)) (append-nil (take j l))
 
