@@ -18,10 +18,14 @@ digit_value x = or_zero (digit x)
 unfoldable pub is_digit : ℕ → Bool
 is_digit x = is_some (digit x)
 
+-- f says what a character counts
+unfoldable pub pairs : (ℕ → ℕ) → Line → List ℕ
+pairs f [] = []
+pairs f (x ∷ []) = []
+pairs f (x ∷ y ∷ l) = (f x * 16 + f y) ∷ pairs f l
+
 unfoldable pub decoded : Line → List ℕ
-decoded [] = []
-decoded (x ∷ []) = []
-decoded (x ∷ y ∷ l) = (digit_value x * 16 + digit_value y) ∷ decoded l
+decoded l = pairs digit_value l
 
 -- both characters of the byte at i are digits
 unfoldable pub is_pair : Line → ℕ → Bool
