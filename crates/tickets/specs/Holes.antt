@@ -25,10 +25,15 @@ highest_fold ws ns h e = go ns h ∙ ap (λ l. highest h (map entry_of l)) e
     go (w ∷ l) h = go l (max h (item_of w).tn) ∙ sym (highest_max (item_of w).tn h (map entry_of l))
 
 -- ---- the lowest hole
--- no number is left
-pub no_hole : (height top : ℕ) (l : List Entry) → top ≤ height → lowest_hole height top l ≡ none
-unfolding lowest_hole first_free
-no_hole height top l h = let f : top - height - 1 ≡ 0 = omega arith in rw f
+-- no number is left from n on
+pub no_hole : (top n : ℕ) (l : List Entry) → top ≤ n → first_free (top - n) n l ≡ none
+unfolding first_free
+no_hole top n l h = let f : top - n ≡ 0 = omega arith in rw f
+
+-- there is none between
+pub none_between : (height top : ℕ) (l : List Entry) → top ≤ height → lowest_hole height top l ≡ none
+unfolding lowest_hole
+none_between height top l h = let f : top - height - 1 ≡ top - (height + 1) = omega arith in rw f (no_hole top (height + 1) l (omega arith))
 
 -- the first of the numbers between that no entry has
 pub hole_found : (height top : ℕ) (l : List Entry) (o : Option ℕ) → option_map (λ t. t) o ≡ find (λ t. not (anyb (has_tn t) l)) (range_with_len (height + 1) (top - (height + 1))) →

@@ -4,11 +4,11 @@ use Rattle.std.proofs.lemmas.Iterator.{YieldsList-from_range}
 use Rattle.std.proofs.lemmas.Iterator.Search.{find_from_yields_List}
 use Rattle.lists.specs.Lists.{anyb}
 use Rattle.protocol.specs.Tickets.{has_tn}
-use Rattle.tickets.specs.{Table.entries, Holes.{no_hole, hole_found}}
+use Rattle.tickets.specs.{Table.entries, Holes.{none_between, hole_found}}
 use Rattle.tickets.proofs.lowest_hole.Goals as goal
 
 pub returns-then-top-height : goal.returns-then-top-height
-returns-then-top-height c = sym (no_hole _ _ _ (omega arith))
+returns-then-top-height c = sym (none_between _ _ _ (omega arith))
 
 pub returns : goal.returns
 returns c =
