@@ -4,9 +4,9 @@
 ghost use Rattle.std.specs.Prelude.{◌≡◌};
 ghost use Rattle.protocol.specs.Job.{buddy_byte, chare_byte, buddy_in_range, chare_in_range, job_in_range, job_of};
 ghost use Rattle.frames.specs.Decode.{decoded};
-ghost use Rattle.jobline.specs.Numbers.{number_of, place_of};
+ghost use Rattle.jobline.specs.Numbers.{number_of};
 
-// The three numbers that a line has of a chare, in their order: its machine and its two ports.
+// The three numbers that a line has of a chare, in their order: its machine and its two ports. `as u8` gives the place of each.
 #[derive(Clone, Copy)]
 pub enum Number {
     Home,
@@ -20,11 +20,12 @@ fn buddy_byte(line: &[u8], p: u8) -> u8
     frames::byte(line, 2 + p as usize)
 }
 
-fn chare_byte(line: &[u8], which: Number, c: u8) -> u8
-    ensures { result ≡ chare_byte (decoded line.now) c (place_of which) }
+// The i-th of the three numbers of chare `c`.
+fn chare_byte(line: &[u8], i: u8, c: u8) -> u8
+    ensures { result ≡ chare_byte (decoded line.now) c i }
 {
     let machines = frames::byte(line, 1) as usize;
-    frames::byte(line, machines + 3 * c as usize + which as usize)
+    frames::byte(line, machines + 3 * c as usize + i as usize)
 }
 
 fn buddy_in_range(line: &[u8], p: u8) -> bool
@@ -39,9 +40,9 @@ fn chare_in_range(line: &[u8], c: u8) -> bool
 {
     let machines = frames::byte(line, 1);
     let chares = frames::byte(line, 2);
-    (1..=machines).contains(&chare_byte(line, Number::Home, c))
-        && chare_byte(line, Number::First, c) <= chares
-        && chare_byte(line, Number::Second, c) <= chares
+    (1..=machines).contains(&chare_byte(line, Number::Home as u8, c))
+        && chare_byte(line, Number::First as u8, c) <= chares
+        && chare_byte(line, Number::Second as u8, c) <= chares
 }
 
 // Every number of a job line is in range, and no machine is its own buddy.
@@ -71,12 +72,12 @@ pub fn buddy_of(line: &[u8], p: u8) -> u8
     }
 }
 
-// One of the three numbers of chare `c`, 0 where the job has no such chare.
-pub fn number_of(line: &[u8], which: Number, c: u8) -> u8
-    ensures { result ≡ number_of (decoded line.now) (place_of which) c }
+// The i-th number of chare `c` (`Number` has the three), 0 where the job has no such chare.
+pub fn number_of(line: &[u8], i: u8, c: u8) -> u8
+    ensures { result ≡ number_of (decoded line.now) i c }
 {
     if (1..=frames::byte(line, 2)).contains(&c) {
-        chare_byte(line, which, c)
+        chare_byte(line, i, c)
     } else {
         0
     }

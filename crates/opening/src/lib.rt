@@ -58,15 +58,15 @@ fn write_head(h: &mut [u64], line: &[u8])
     fill(&mut h[HELD..HELD + 7], |p| held_of(line, p));
     fill(
         &mut h[HOME..HOME + 13],
-        |c| jobline::number_of(line, Number::Home, c),
+        |c| jobline::number_of(line, Number::Home as u8, c),
     );
     fill(
         &mut h[FIRST..FIRST + 13],
-        |c| jobline::number_of(line, Number::First, c),
+        |c| jobline::number_of(line, Number::First as u8, c),
     );
     fill(
         &mut h[SECOND..SECOND + 13],
-        |c| jobline::number_of(line, Number::Second, c),
+        |c| jobline::number_of(line, Number::Second as u8, c),
     );
 }
 
