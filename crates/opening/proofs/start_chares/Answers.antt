@@ -17,5 +17,4 @@ returns c =
 
 pub returns-2 : goal.returns-2
 returns-2 c =
-    let l = c.loop-c in
-    c.start_chare.ensures ∙ ap (λ v. started v l.c) l.invariant.1 ∙ below_more _ _ l.c (search rules) (omega arith) ∙ below_end _ _ (l.c + 1) (omega arith)
+    c.start_chare.ensures ∙ ap (λ v. started v c.loop-c.c) c.loop-c.invariant.1 ∙ below_more _ _ c.loop-c.c (search rules) (omega arith) ∙ below_end _ _ (c.loop-c.c + 1) (omega arith)
