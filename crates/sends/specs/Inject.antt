@@ -4,7 +4,6 @@ use Rattle.std.proofs.Common.{sym, ◌∙◌, arith, leb-true}
 use Rattle.std.proofs.Math.Bool.{and-true}
 use Rattle.lists.specs.{Questions.{Question, ◌asks◌, first_no, first_no_yes}, Tests.{and_l, and_r}}
 use Rattle.protocol.specs.{declared.Rule.TheVariants.Other, declared.Answer.TheVariants.{Accepted, Refused}, Parts.State, Step.Outcome}
-use Rattle.protocol.specs.{declared.Refusal.Refusal, Numbers.{number, number_not_zero}}
 use Rattle.protocol.specs.{Questions.{inject_questions, is_chare, put_to_all}, Sending.{send, send_all}}
 use Rattle.store.specs.{View.{view, tried, Framed}, Framing.{refuses as refused, accepts as accepted, chare_in}}
 use Rattle.sends.specs.{Made.{Made, sends_made, sends_refused}, Sends.{sends_questions, tried_sends}, Verdict.{stopped, passed}}
@@ -30,10 +29,10 @@ module _ (xs : List ℕ) (c v h : ℕ) where
   abbrev injected : Outcome
   injected = tried (view xs) (inject_questions (view xs) c v h) (send (view xs) 0 c v h)
 
-  pub inject_refused : (r : Refusal) → number r ≡ first_no (desk_questions (view xs) c h) → Framed xs xs (Refused (number r)) injected
+  pub inject_refused : (n : ℕ) → n ≡ first_no (desk_questions (view xs) c h) → (n ≡ 0 → ⊥) → Framed xs xs (Refused n) injected
   unfolding tried
-  inject_refused r e =
-      refused xs (number r) (rw (inject_asked (view xs) c v h) (stopped (view xs) (desk_questions (view xs) c h) _ _ (λ z. number_not_zero r (e ∙ z)) ∙ rw (← e)))
+  inject_refused n e f =
+      refused xs n (rw (inject_asked (view xs) c v h) (stopped (view xs) (desk_questions (view xs) c h) _ _ (λ z. f (e ∙ z)) ∙ rw (← e)))
 
   module _ (z : 0 ≡ first_no (desk_questions (view xs) c h)) where
     in_range : (is_chare (view xs) c && leb h 7) ≡ true

@@ -4,7 +4,6 @@ use Rattle.std.proofs.Common.{sym, ap, ◌∙◌, ne_eqb, le-leb}
 use Rattle.lists.specs.Questions.{Yes, yes_put, put_first, first_no, first_no_yes}
 use Rattle.protocol.specs.{declared.Rule.TheVariants.Other, declared.Answer.TheVariants.{Accepted, Refused}, Parts.{State, Job}, Sending.{send, send_all}, Work.{receivers, ports, port}}
 use Rattle.protocol.specs.{Questions.{put_to_all, wire_fits}, Step.judged}
-use Rattle.protocol.specs.{declared.Refusal.Refusal, Numbers.{number, number_not_zero}}
 use Rattle.store.specs.{Places.STORE, View.{view, outcome}}
 use Rattle.sends.specs.{declared.plan.Plan.Plan, Plan.{plan_of, plan_after}, Reading.wire_top, Ticket.message_after, Stored.to_sent, SecondLaws.after_first}
 use Rattle.sends.specs.{Sends.{one_verdict, two_verdict, sends_questions, tried_sends, one_judged, two_judged}, Sendable.{plan_fits, rest_yes, is_made}}
@@ -16,8 +15,8 @@ pub record Made (before after : List ℕ) (a : ℕ) (l : List ℕ) (v h n : ℕ)
   pub made : n ≡ 0 → view after ≡ send_all (view before) a l v h
 
 module _ {xs : List ℕ} {a : ℕ} {l : List ℕ} {v h : ℕ} where
-  pub none_sent : (e : Refusal) → number e ≡ first_no (sends_questions (view xs) a l v h) → Made xs xs a l v h (number e)
-  none_sent e said = record { said = said; stays = λ _. refl; made = λ z. absurd (number_not_zero e z) }
+  pub none_sent : {n : ℕ} → n ≡ first_no (sends_questions (view xs) a l v h) → (n ≡ 0 → ⊥) → Made xs xs a l v h n
+  none_sent said f = record { said = said; stays = λ _. refl; made = λ z. absurd (f z) }
 
   all_sent : 0 ≡ first_no (sends_questions (view xs) a l v h) → {ys : List ℕ} → (Yes (sends_questions (view xs) a l v h) → view ys ≡ send_all (view xs) a l v h) → Made xs ys a l v h 0
   unfolding sends_questions

@@ -3,7 +3,7 @@ use Rattle.std.specs.Prelude.{◌≡◌, refl, List, ℕ, ◌<◌}
 use Rattle.std.proofs.Common.{sym, ap, ◌∙◌, arith}
 use Rattle.std.proofs.Math.Option.{Option, some, none}
 use Rattle.lists.specs.Questions.{put_all, first_no, first_no_yes}
-use Rattle.protocol.specs.{declared.Answer.Answer, declared.Answer.TheVariants.Refused, declared.Entry.Entry, declared.Refusal.Refusal, Parts.up, Working.next_entry, Numbers.{number, number_not_zero}}
+use Rattle.protocol.specs.{declared.Answer.Answer, declared.Answer.TheVariants.Refused, declared.Entry.Entry, Parts.up, Working.next_entry}
 use Rattle.protocol.specs.{Questions.{is_chare, work_questions, entry_questions}, Step.{Outcome, judged}}
 use Rattle.protocol.proofs.{Recovery.Laws.Lookups.next_entry_some}
 use Rattle.words.specs.Part.{part}
@@ -36,10 +36,9 @@ module _ (xs : List ℕ) (c : ℕ) where
   unfolding view
   asked e = e
 
-  pub frame_refused : (r : Refusal) → number r ≡ first_no (chare_asked (job_of xs) (lost_of xs) (status_of xs) c) → Framed xs xs (Refused (number r)) work_outcome
+  pub frame_refused : (n : ℕ) → n ≡ first_no (chare_asked (job_of xs) (lost_of xs) (status_of xs) c) → (n ≡ 0 → ⊥) → Framed xs xs (Refused n) work_outcome
   unfolding tried work_questions chare_asked is_chare up runs
-  frame_refused r e =
-      refused xs (number r) (stopped (view xs) (chare_questions (view xs) c) _ _ (λ z. number_not_zero r (asked e ∙ z)) ∙ rw (← asked e))
+  frame_refused n e f = refused xs n (stopped (view xs) (chare_questions (view xs) c) _ _ (λ z. f (asked e ∙ z)) ∙ rw (← asked e))
 
   module _ (z : 0 ≡ first_no (chare_asked (job_of xs) (lost_of xs) (status_of xs) c)) where
     pub index : c < 13

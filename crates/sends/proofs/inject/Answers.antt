@@ -9,7 +9,7 @@ pub returns-in_err-judge_inject : goal.returns-in_err-judge_inject
 returns-in_err-judge_inject c =
     let a = c.args in
     let p = err_from_is_err_and c.from_residual.result c.from_residual.ensures.1 in
-    rw (p.1, p.2) (inject_refused a.s.now a.chare a.value a.hops _ c.in_err-judge_inject.ensures)
+    rw (p.1, p.2) (inject_refused a.s.now a.chare a.value a.hops _ c.in_err-judge_inject.ensures (number_not_zero _))
 
 pub send_one-requires : goal.send_one-requires
 send_one-requires c =

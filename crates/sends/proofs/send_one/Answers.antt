@@ -1,4 +1,5 @@
 use Rattle.std.proofs.lemmas.Result.{err_from_is_err_and}
+use Rattle.protocol.specs.Numbers.{number_not_zero}
 use Rattle.sends.specs.Made.{none_sent, one_said, one_made}
 use Rattle.sends.proofs.send_one.Goals as goal
 
@@ -6,7 +7,7 @@ pub returns-in_err-one_verdict : goal.returns-in_err-one_verdict
 returns-in_err-one_verdict c =
     let a = c.args in
     let p = err_from_is_err_and c.from_residual.result c.from_residual.ensures.1 in
-    rw (p.1, p.2) (none_sent _ (one_said a.s.now a.a a.b a.value a.hops _ c.plan_of-p.ensures _ _ c.logged.ensures.is c.waiting.ensures.is c.in_err-one_verdict.ensures))
+    rw (p.1, p.2) (none_sent (one_said a.s.now a.a a.b a.value a.hops _ c.plan_of-p.ensures _ _ c.logged.ensures.is c.waiting.ensures.is c.in_err-one_verdict.ensures) (number_not_zero _))
 
 pub returns : goal.returns
 returns c =

@@ -4,14 +4,14 @@ use Rattle.std.proofs.lemmas.Result.{err_from_is_err_and}
 use Rattle.store.specs.ViewLaws.{span}
 use Rattle.sends.specs.WorkFrame.{frame_refused, index, next_fits, nothing_next, next_worked}
 use Rattle.lists.specs.Options.{maybe}
-use Rattle.protocol.specs.Numbers.{number, refusal_of}
+use Rattle.protocol.specs.Numbers.{number, number_not_zero, refusal_of}
 use Rattle.sends.proofs.work.Goals as goal
 
 pub returns-in_err-judge_chare : goal.returns-in_err-judge_chare
 returns-in_err-judge_chare c =
     let a = c.args in
     let p = err_from_is_err_and c.from_residual.result c.from_residual.ensures.1 in
-    rw (p.1, p.2) (frame_refused a.s.now a.chare _ c.in_err-judge_chare.ensures)
+    rw (p.1, p.2) (frame_refused a.s.now a.chare _ c.in_err-judge_chare.ensures (number_not_zero _))
 
 pub slice_bounds-next_entry-end : goal.slice_bounds-next_entry-end
 slice_bounds-next_entry-end c = let h = index c.args.s.now c.args.chare c.in_ok-judge_chare.ensures in omega arith
