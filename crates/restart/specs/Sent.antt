@@ -37,10 +37,10 @@ pub words_many : (ws : List ℕ) → length (items ws) ≡ length (packets ws)
 unfolding packets
 words_many ws = as_many unpacked ws
 
--- a logged message sent again: what a word holds is what goes out
-pub put_again : (x : Logged) → Fits x.message → (s : State) (p : ℕ) (here : Bool) (b : Packet) → b ∷ [] ≡ again s p here x
-    → (l : List Packet) (a : Option (List Packet)) → a ≡ putting l (fitted b ∷ []) → a ≡ putting l (again s p here x)
-put_again x fits s p here b e l a put = put ∙ ap (putting l) (ap (map fitted) e ∙ again_fits x fits s p here)
+-- a logged message sent again, as no packet or one: what a word holds is what goes out
+pub put_again : (x : Logged) → Fits x.message → (s : State) (p : ℕ) (here : Bool) (o : List Packet) → o ≡ again s p here x
+    → (l : List Packet) (a : Option (List Packet)) → a ≡ putting l (map fitted o) → a ≡ putting l (again s p here x)
+put_again x fits s p here o e l a put = put ∙ ap (putting l) (ap (map fitted) e ∙ again_fits x fits s p here)
 
 -- ---- all packets
 pub putting_all : (l xs : List Packet) → length l ≤ 128 → putting l xs ≡ limit 128 (l ++ xs)
