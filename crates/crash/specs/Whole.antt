@@ -15,6 +15,12 @@ unfoldable pub crash_tried : State → ℕ → Bool → Outcome
 crash_tried s p true = done Other (crash s p)
 crash_tried s p false = record { state = with_lost s true; answer = Lost }
 
+-- the wire: h is the head
+pub wire_is : (xs h ys : List ℕ) (p : ℕ) → length xs ≡ STORE → length ys ≡ PACKETS → h ≡ part 0 HEAD xs → packets ys ≡ keep (survives (job_of h) p) (packets (part WIRE PACKETS xs))
+    → view (put WIRE PACKETS xs ys) ≡ with_wire (view xs) (crash (view xs) p).wire
+unfolding crash view
+wire_is xs h ys p size long is-h e = wire_put xs size ys long ∙ ap (with_wire (view xs)) (e ∙ rw (is-h, (head_part xs).job))
+
 -- the wire lent beside all before it: h is the front, w the wire, ys what becomes of it
 module _ (xs : List ℕ) (size : length xs ≡ STORE) (h w : List ℕ) (is-h : h ≡ take WIRE xs) (is-w : w ≡ drop WIRE xs) where
   front_says : job_of h ≡ job_of xs
@@ -26,9 +32,9 @@ module _ (xs : List ℕ) (size : length xs ≡ STORE) (h w : List ℕ) (is-h : h
   joined : (ys : List ℕ) → h ++ ys ≡ put WIRE PACKETS xs ys
   joined ys = rw (is-h, drop_all PACKETS (drop WIRE xs) (simp length-drop (omega arith)), append-nil)
 
-  pub wire_is : (ys : List ℕ) (p : ℕ) → length ys ≡ PACKETS → packets ys ≡ keep (survives (job_of h) p) (packets w) → view (h ++ ys) ≡ with_wire (view xs) (crash (view xs) p).wire
+  pub wire_beside : (ys : List ℕ) (p : ℕ) → length ys ≡ PACKETS → packets ys ≡ keep (survives (job_of h) p) (packets w) → view (h ++ ys) ≡ with_wire (view xs) (crash (view xs) p).wire
   unfolding crash view
-  wire_is ys p long e = ap view (joined ys) ∙ wire_put xs size ys long ∙ ap (with_wire (view xs)) (e ∙ rw (front_says, lent))
+  wire_beside ys p long e = ap view (joined ys) ∙ wire_put xs size ys long ∙ ap (with_wire (view xs)) (e ∙ rw (front_says, lent))
 
 -- down; the memories, the copies, the notes, the packets gone
 pub crash_is : (xs : List ℕ) (p : ℕ) (t u v w : State) → length xs ≡ STORE → p < 7
