@@ -27,6 +27,7 @@ returns-in-New c =
       words = c.join-in-New.ensures.words ∙ rw (n, c.about-in-New.ensures);
     })
 
+-- without a packet
 pub returns-in-Found : goal.returns-in-Found
 returns-in-Found c = elim c.in-Found.is [
   | inl e ↦ unfold wire_by to_words in rw e.1 (record { row = becomes_same packets _ refl; words = refl })
