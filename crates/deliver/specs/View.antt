@@ -3,7 +3,7 @@ use Rattle.std.specs.Prelude.{◌≡◌, List, [], ℕ, Option, None, Some, Resu
 use Rattle.std.proofs.Common.{arith}
 use Rattle.lists.specs.{Options.maybe, Questions.{Question, Result as Judged, ok, refuse, put_all}}
 use Rattle.arrays.specs.Front.{push}
-use Rattle.protocol.specs.{declared.Content.Content, declared.Packet.Packet, declared.Refusal.Refusal, Numbers.{number, kind_number}, Parts.{Memory, wire_room}}
+use Rattle.protocol.specs.{declared.Content.Content, declared.Packet.Packet, declared.Refusal.Refusal, Numbers.number, Parts.{Memory, wire_room}}
 use Rattle.words.specs.{Rows.without, Becomes.Becomes}
 use Rattle.item.specs.{declared.Item.Item, Item.items}
 use Rattle.packets.specs.{Words.{fitted, packets}, Packing.packed, declared.Name.Name}
@@ -16,7 +16,7 @@ effect_of ws d = record { memory = memory_view ws; rule = d.rule; reply = maybe 
 
 -- the numbers of a frame are those of a packet's name
 pub record Names (k a r n : ℕ) (x : Name) : Type 0 where
-  pub kind : kind_number x.kind ≡ k
+  pub kind : x.kind ≡ k
   pub sender : x.sender ≡ a
   pub receiver : x.receiver ≡ r
   pub sn : x.sn ≡ n

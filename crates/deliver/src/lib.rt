@@ -26,12 +26,12 @@ use packets::{Found, Name};
 use protocol::{Content, Kind, Note, Packet, Refusal, Rule};
 use store::{LIVE, NOTELIST, NOTES, STORE, WIRE};
 
-// Question 3: a packet's name in range. The kind comes as the byte of the frame, of any value: this is where it becomes a `Kind`.
+// Question 3: a packet's name in range. The kind comes as the byte of the frame, of any value: this is where it must be that of a `Kind`.
 fn in_range(s: &[u64; STORE], kind: u8, sender: u8, receiver: u8, sn: u16) -> Result<Name, Refusal>
     ensures asked { refusal_of result ≡ first_no (3 asks in_range (job_of s.now) kind sender receiver sn ∷ []) }
     ensures named { IfOk result (Names kind sender receiver sn) }
 {
-    let kind = Kind::try_from(kind)?;
+    Kind::try_from(kind)?;
     if head::is_sender(s, sender) && head::is_chare(s, receiver) && (1..=60000).contains(&sn) {
         Ok(Name {
             kind,
@@ -130,7 +130,7 @@ pub fn deliver(
     if let Content::Note(tn) = packet.content {
         return deliver_note(s, place, packet, tn);
     }
-    let to = if name.kind == Kind::Grant {
+    let to = if kind == Kind::Grant.number() {
         sender
     } else {
         receiver

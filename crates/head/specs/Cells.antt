@@ -17,9 +17,9 @@ module _ (m : ℕ) (l : List ℕ) (k : ℕ) where
   cell_end h = cell_blank (List·getD-eq-default l 0 {n = k} h)
 
   -- a word read in two steps
-  pub cell_read : (k ≡ 0 → ⊥) → (w r : ℕ) → w ≡ as_map 0 l k → r ≡ min w m → r ≡ cell m l k
+  pub cell_read : (k ≡ 0 → ⊥) → (w r : ℕ) → w ≡ as_map 0 l k → r ≡ min w m → (r ≡ cell m l k) × (r ≤ m)
   unfolding cell as_map
-  cell_read n w r e f = f ∙ rw (e, ne_eqb k 0 n)
+  cell_read n w r e f = (f ∙ rw (e, ne_eqb k 0 n), omega arith)
 
 pub cell_none : (m n k : ℕ) → cell m (replicate n 0) k ≡ 0
 cell_none m n k = cell_blank m (replicate n 0) k (zero_at n k)

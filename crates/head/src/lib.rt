@@ -10,7 +10,7 @@ ghost use Rattle.protocol.specs.Parts.{on};
 ghost use Rattle.protocol.specs.Sending.{is_local};
 ghost use Rattle.protocol.specs.Packets.{destination};
 ghost use Rattle.protocol.specs.Frames.{between};
-ghost use Rattle.protocol.specs.Numbers.{kind_number, refusal_of};
+ghost use Rattle.protocol.specs.Numbers.{refusal_of};
 ghost use Rattle.words.specs.Part.{part};
 ghost use Rattle.head.specs.Head.{HEAD, cell, job_of, lost_of, status_of, held_of, target_of, runs, chare_asked};
 
@@ -173,12 +173,12 @@ pub fn is_local(h: &[u64], a: u8, b: u8) -> bool
     a != 0 && home(h, a) == home(h, b)
 }
 
-// The machine that a packet of a kind goes to.
-pub fn destination(h: &[u64], kind: Kind, sender: u8, receiver: u8) -> u8
+// The machine that a packet of a kind goes to. The kind may be any byte: one that is no kind goes to the receiver, as DATA does.
+pub fn destination(h: &[u64], kind: u8, sender: u8, receiver: u8) -> u8
     requires { HEAD ≤ length h.now }
-    ensures { result ≡ destination (job_of h.now) (kind_number kind) sender receiver }
+    ensures { result ≡ destination (job_of h.now) kind sender receiver }
 {
-    match kind {
+    match Kind::try_from(kind).unwrap_or(Kind::Data) {
         Kind::Grant => home(h, sender),
         Kind::Note => buddy(h, home(h, receiver)),
         Kind::Ask | Kind::Data | Kind::Ack => home(h, receiver),

@@ -27,15 +27,15 @@ module _ (w : ℕ) where
   shown Ack e = rw (← e)
 
   -- one that no packet has counts as ACK
-  unknown : (k : ℕ) → k ≡ w / KIND % 8 → (k < 1) ⊎ (5 < k) → 5 ≡ kind (unpacked w).content
+  pub kind_none : (k : ℕ) → k ≡ w / KIND % 8 → (1 ≤ k → k ≤ 5 → ⊥) → 5 ≡ kind (unpacked w).content
   unfolding unpacked as_packet content_of item_of kind carried
-  unknown k e n =
-      let miss : (j : ℕ) → 1 ≤ j → j ≤ 4 → eqb k j ≡ false = λ j a b. ne_eqb k j (λ q. omega arith) in
+  kind_none k e n =
+      let miss : (j : ℕ) → 1 ≤ j → j ≤ 4 → eqb k j ≡ false = λ j a b. ne_eqb k j (λ q. n (omega arith) (omega arith)) in
       rw (← e, miss 1 (omega arith) (omega arith), miss 2 (omega arith) (omega arith), miss 3 (omega arith) (omega arith), miss 4 (omega arith) (omega arith))
 
   pub kind_shown : (r : Result Kind Refusal) → KindOf (w / KIND % 8) r → kind_number (result_unwrap_or r Ack) ≡ kind (unpacked w).content
   kind_shown (Ok k) h = shown k h
-  kind_shown (Err e) h = unknown _ refl h.1
+  kind_shown (Err e) h = kind_none _ refl (λ a b. let out : (w / KIND % 8 < 1) ⊎ (5 < w / KIND % 8) = h.1 in omega arith)
 
 -- ---- the name: sender, receiver and SN in one number, then the kind
 unfoldable pub has_name : ℕ → ℕ → ℕ → Bool

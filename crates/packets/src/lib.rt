@@ -22,10 +22,10 @@ use item::{Item, KIND};
 use protocol::{Content, Kind, Packet};
 use words::{OWNER, PEER};
 
-// By which a packet is found.
+// By which a packet is found. The kind may be any byte, and nothing is found of a kind that no packet has.
 #[derive(Clone, Copy)]
 pub struct Name {
-    pub kind: Kind,
+    pub kind: u8,
     pub sender: u8,
     pub receiver: u8,
     pub sn: u16,
@@ -149,10 +149,10 @@ fn kind(w: u64) -> Kind
 
 // Sender, receiver and SN are all that stands below the kind, so most words are told from a name by one number.
 #[tactic(auto, unfolding(crate::specs::Names::has_name))]
-fn has_name(w: u64, name: u64, k: Kind) -> bool
-    ensures { result ≡ has_name name (kind_number k) w }
+fn has_name(w: u64, name: u64, k: u8) -> bool
+    ensures { result ≡ has_name name k w }
 {
-    w % KIND == name && kind(w) == k
+    w % KIND == name && kind(w).number() == k
 }
 
 // One call of `words`, as `push` and the like: the contract says it of what the words mean, and callers' laws speak of that.
@@ -164,7 +164,7 @@ pub fn count(ws: &[u64]) -> usize
 
 // The oldest packet of a name. No word has a sender or a receiver above 15.
 pub fn find(ws: &[u64], name: Name) -> Option<Found>
-    ensures { result ≡ sought (is_named (kind_number name.kind) name.sender name.receiver name.sn) (packets ws.now) }
+    ensures { result ≡ sought (is_named name.kind name.sender name.receiver name.sn) (packets ws.now) }
 {
     if 16 <= name.sender || 16 <= name.receiver {
         return None;
@@ -201,7 +201,7 @@ fn goes_to(h: &[u64], p: u8, w: u64) -> bool
     ensures { result ≡ eqb (goes_to (job_of h.now) (unpacked w)) p }
 {
     let x = item::unpack(w);
-    head::destination(h, kind(w), x.owner, x.peer) == p
+    head::destination(h, kind(w).number(), x.owner, x.peer) == p
 }
 
 // A word's packet outlives a crash of machine p; h is a head.

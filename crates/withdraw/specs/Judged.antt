@@ -1,8 +1,8 @@
 -- The questions of frame 17 as the code puts them: 2 to 5 on the chare, then 12 by the desk's log, the wire and the chare's table.
-use Rattle.std.specs.Prelude.{◌≡◌, refl, true, false, ◌&&◌, List, [], ◌∷◌, ◌++◌, ℕ, ◌<◌}
+use Rattle.std.specs.Prelude.{◌≡◌, refl, true, false, ◌&&◌, ◌≢◌, List, [], ◌∷◌, ◌++◌, ℕ, ◌<◌}
 use Rattle.std.proofs.Common.{sym, ap, ◌∙◌, arith}
 use Rattle.lists.specs.{Lists.find, Questions.{Question, Yes, ◌asks◌, first_no, first_no_yes, first_no_stops, first_no_passes}}
-use Rattle.protocol.specs.{declared.Refusal.Refusal, Numbers.{number, number_not_zero}, Parts.up, Tickets.entry, Packets.{lookup, is_named}, Withdraw.{last_sn, without_tn, logged_without_tn}}
+use Rattle.protocol.specs.{Parts.up, Tickets.entry, Packets.{lookup, is_named}, Withdraw.{last_sn, without_tn, logged_without_tn}}
 use Rattle.protocol.specs.Questions.{is_chare, no_entry, on_wire, is_there, can_be_taken_back, withdraw_questions}
 use Rattle.words.specs.Part.{part}
 use Rattle.head.specs.Head.{job_of, lost_of, status_of, runs, chare_asked}
@@ -32,9 +32,9 @@ module _ (xs : List ℕ) (c : ℕ) where
   unfolding withdraw_questions is_chare
   passed_in e = chare_in xs c (first_no_yes (withdraw_questions (view xs) c) refl (sym e)).1.0
 
-  -- the first "no" of 2 to 5
-  pub stopped : (e : Refusal) → number e ≡ first_no firsts → number e ≡ first_no (withdraw_questions (view xs) c)
-  stopped e h = h ∙ sym (ap first_no in_parts ∙ first_no_stops firsts _ (λ z. number_not_zero e (h ∙ z)))
+  -- n is the first "no" of 2 to 5
+  pub stopped : (n : ℕ) → n ≡ first_no firsts → n ≢ 0 → n ≡ first_no (withdraw_questions (view xs) c)
+  stopped n n-is h = n-is ∙ sym (ap first_no in_parts ∙ first_no_stops firsts _ (λ z. h (n-is ∙ z)))
 
   -- none of them is answered "no"
   module _ (z : 0 ≡ first_no firsts) where

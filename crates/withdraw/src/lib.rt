@@ -33,7 +33,7 @@ fn is_asked(ws: &[u64], c: u8, n: u16) -> bool
     ensures { result ≡ is_there (find (is_named 1 0 c n) (packets ws.now)) }
 {
     let ask = Name {
-        kind: Kind::Ask,
+        kind: Kind::Ask.number(),
         sender: 0,
         receiver: c,
         sn: n,

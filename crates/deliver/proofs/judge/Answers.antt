@@ -3,7 +3,7 @@ use Rattle.std.specs.Prelude.{◌≡◌, refl, Bool, true, false, [], ◌∷◌,
 use Rattle.std.proofs.Common.{◌∙◌, arith, rules}
 use Rattle.std.proofs.lemmas.Result.{err_from_is_err_and}
 use Rattle.lists.specs.Questions.{◌asks◌, first_no}
-use Rattle.protocol.specs.{declared.Refusal.Refusal, Numbers.{kind_number, refusal_of, number_not_zero}, Packets.destination}
+use Rattle.protocol.specs.{declared.Refusal.Refusal, Numbers.{refusal_of, number_not_zero}, Packets.destination}
 use Rattle.head.specs.Head.{job_of, status_of, runs}
 use Rattle.packets.specs.declared.Name.{Name}
 use Rattle.deliver.specs.{Frame.first_questions, View.Names}
@@ -11,7 +11,7 @@ use Rattle.deliver.proofs.judge.Goals as goal
 
 -- without a name question 3 decides, and question 5 is not reached
 by_name : (running : ℕ → Bool) (k a r n : ℕ) (ready up set range : Bool) (j : Result Name Refusal) → refusal_of j ≡ first_no (3 asks range ∷ []) → IfOk j (Names k a r n)
-    → MatchResult j (λ x. up ≡ running (kind_number x.kind)) (λ _. up ≡ false)
+    → MatchResult j (λ x. up ≡ running x.kind) (λ _. up ≡ false)
     → first_no (2 asks set ∷ 3 asks is_ok j ∷ 4 asks ready ∷ 5 asks up ∷ []) ≡ first_no (2 asks set ∷ 3 asks range ∷ 4 asks ready ∷ 5 asks running k ∷ [])
 unfolding first_no
 by_name running k a r n ready up set true (Ok x) e c h = rw (h, c.kind)
@@ -31,7 +31,7 @@ pub returns-in_err-first_no-clause-asked : goal.returns-in_err-first_no-clause-a
 unfolding first_questions
 returns-in_err-first_no-clause-asked c =
     let a = c.args in
-    let up : MatchResult c.in_range-name.result (λ x. c.is_ok_and-up.result ≡ runs (status_of a.s.now) (destination (job_of a.s.now) (kind_number x.kind) a.sender a.receiver)) (λ _. c.is_ok_and-up.result ≡ false) = search rules in
+    let up : MatchResult c.in_range-name.result (λ x. c.is_ok_and-up.result ≡ runs (status_of a.s.now) (destination (job_of a.s.now) x.kind a.sender a.receiver)) (λ _. c.is_ok_and-up.result ≡ false) = search rules in
     let p = err_from_is_err_and c.from_residual.result c.from_residual.ensures.1 in
     rw (p.1, p.2) (c.in_err-first_no.ensures ∙ rw (c.is_set.ensures, c.is_ok.ensures.value, c.is_lost.ensures)
     (by_name (λ k. runs (status_of a.s.now) (destination (job_of a.s.now) k a.sender a.receiver)) _ _ _ _ _ _ _ _ _ c.in_range-name.ensures.asked c.in_range-name.ensures.named up))
@@ -40,6 +40,6 @@ pub returns-clause-asked : goal.returns-clause-asked
 unfolding first_questions
 returns-clause-asked c =
     let a = c.args in
-    let up : MatchResult c.in_range-name.result (λ x. c.is_ok_and-up.result ≡ runs (status_of a.s.now) (destination (job_of a.s.now) (kind_number x.kind) a.sender a.receiver)) (λ _. c.is_ok_and-up.result ≡ false) = search rules in
+    let up : MatchResult c.in_range-name.result (λ x. c.is_ok_and-up.result ≡ runs (status_of a.s.now) (destination (job_of a.s.now) x.kind a.sender a.receiver)) (λ _. c.is_ok_and-up.result ≡ false) = search rules in
     let e = rw (c.is_set.ensures, c.is_ok.ensures.value, c.is_lost.ensures) at c.in_ok-first_no.ensures in
     with_name _ _ _ _ e ∙ e ∙ by_name (λ k. runs (status_of a.s.now) (destination (job_of a.s.now) k a.sender a.receiver)) _ _ _ _ _ _ _ _ _ c.in_range-name.ensures.asked c.in_range-name.ensures.named up

@@ -6,4 +6,4 @@ pub returns-then-k-eq0-clause-is : goal.returns-then-k-eq0-clause-is
 returns-then-k-eq0-clause-is c = unfold cell in rw c.if-k-eq0.true
 
 pub returns-clause-is : goal.returns-clause-is
-returns-clause-is c = cell_read _ _ _ c.if-k-eq0.false _ _ c.word.ensures c.min.ensures
+returns-clause-is c = (cell_read _ _ _ c.if-k-eq0.false _ _ c.word.ensures c.min.ensures).0

@@ -12,4 +12,6 @@ there None = refl
 there (Some f) = refl
 
 pub returns : goal.returns
-returns c = c.is_some.ensures ∙ there c.find.result ∙ ap is_there (sought_packet _ _ c.find.ensures)
+returns c =
+    let sought = sought_packet _ _ (rw c.number.ensures at c.find.ensures) in
+    c.is_some.ensures ∙ there c.find.result ∙ ap is_there sought
