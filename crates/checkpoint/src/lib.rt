@@ -100,6 +100,8 @@ fn judge(s: &[u64; STORE], p: u8) -> Result<(), Refusal>
     )
 }
 
+// Kept out of the loop over lines: a call of the reader would compute the places of all memories first, however short its piece.
+#[inline(never)]
 pub fn checkpoint(s: &mut [u64; STORE], p: u8) -> Result<Rule, Refusal>
     ensures { Framed s.old s.new (answered result) (tried (view s.old) (checkpoint_questions (view s.old) p) (checkpoint (view s.old) p)) }
 {

@@ -94,6 +94,8 @@ fn judge(s: &[u64; STORE], p: u8) -> Result<(), Refusal>
     )
 }
 
+// Kept out of the loop over lines: a call of the reader would compute the places of all memories first, however short its piece.
+#[inline(never)]
 pub fn crash(s: &mut [u64; STORE], p: u8) -> Result<Answer, Refusal>
     ensures framed { Framed s.old s.new (given_answer result) (judged (view s.old) (put_all (crash_questions (view s.old) p) (crash_tried (view s.old) p (has_cover (view s.old) p)))) }
     ensures ok { NotRefused result }

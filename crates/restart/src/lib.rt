@@ -46,6 +46,8 @@ fn change(s: &mut [u64; STORE], p: u8, rows: &[[u64; ROW]; 13], wire: &[u64; PAC
 }
 
 // Frame 15.
+// Kept out of the loop over lines: a call of the reader would compute the places of all memories first, however short its piece.
+#[inline(never)]
 pub fn restart(s: &mut [u64; STORE], p: u8) -> Result<Rule, Refusal>
     ensures { Framed s.old s.new (answered result) (tried (view s.old) (restart_questions (view s.old) p) (restart (view s.old) p)) }
 {

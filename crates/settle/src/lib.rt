@@ -19,6 +19,8 @@ use protocol::{Answer, Refusal, Status};
 use store::{LIVE, STORE};
 
 // Chare c has worked all that it had to, and its log has no message without a TN.
+// Kept out of the loop over lines: a call of the reader would compute the places of all memories first, however short its piece.
+#[inline(never)]
 fn has_caught_up(s: &[u64; STORE], c: u8) -> bool
     requires { c < 13 }
     ensures { result ≡ has_caught_up (view s.now) c }

@@ -31,14 +31,17 @@ pub struct NoRoom {
     pub written: usize,
 }
 
-// Puts a piece behind the first n bytes of a line, as far as there is room; how many there are then.
+// Puts a piece behind the first n bytes of a line, as far as there is room; how many there are then. By index: the library's copy becomes a
+// call of memmove, which callers in C would have to bring, and which costs more than the few bytes of a short piece.
 fn keep(line: &mut [u8], n: usize, piece: &[u8]) -> usize
     requires { n ≤ length line.old }
     ensures count { result ≡ min (n + length piece.now) (length line.old) }
     ensures bytes { take result line.new ≡ take (length line.old) (take n line.old ++ piece.now) }
 {
     let k = piece.len().min(line.len() - n);
-    line[n..n + k].copy_from_slice(&piece[..k]);
+    for i in 0..k {
+        line[n + i] = piece[i];
+    }
     n + k
 }
 
