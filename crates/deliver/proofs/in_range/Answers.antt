@@ -18,17 +18,17 @@ kind_in Data = refl
 kind_in Note = refl
 kind_in Ack = refl
 
-pub returns-in_err-kind-clause-asked : goal.returns-in_err-kind-clause-asked
+pub returns-in_err-try_from-clause-asked : goal.returns-in_err-try_from-clause-asked
 unfolding first_no in_range
-returns-in_err-kind-clause-asked c =
+returns-in_err-try_from-clause-asked c =
     let p = err_from_is_err_and c.from_residual.result c.from_residual.ensures.1 in
-    let out : between 1 5 c.args.kind ≡ false = ⊎_elim (between_low 1 5 c.args.kind) (between_high 1 5 c.args.kind) c.in_err-kind.ensures.1 in
-    rw (p.1, p.2, c.in_err-kind.ensures.0, out)
+    let out : between 1 5 c.args.kind ≡ false = ⊎_elim (between_low 1 5 c.args.kind) (between_high 1 5 c.args.kind) c.in_err-try_from.ensures.1 in
+    rw (p.1, p.2, c.in_err-try_from.ensures.0, out)
 
 pub returns-then-contains-clause-asked : goal.returns-then-contains-clause-asked
 unfolding first_no in_range
 returns-then-contains-clause-asked c =
-    let kind = ap (between 1 5) (sym c.in_ok-kind.ensures) ∙ kind_in c.in_ok-kind.kind in
+    let kind = ap (between 1 5) (sym c.in_ok-try_from.ensures) ∙ kind_in _ in
     let low : 1 ≤ c.args.sn = search rules in
     let high : c.args.sn ≤ 60000 = search rules in
     let sn : between 1 60000 c.args.sn ≡ true = unfold between in rw (le-leb 1 _ low, le-leb _ 60000 high) in
@@ -37,7 +37,7 @@ returns-then-contains-clause-asked c =
 pub returns-else-is_sender-clause-asked : goal.returns-else-is_sender-clause-asked
 unfolding first_no in_range
 returns-else-is_sender-clause-asked c =
-    let kind = ap (between 1 5) (sym c.in_ok-kind.ensures) ∙ kind_in c.in_ok-kind.kind in
+    let kind = ap (between 1 5) (sym c.in_ok-try_from.ensures) ∙ kind_in _ in
     rw (kind, ← c.is_sender.ensures) (elim c.else-is_sender.branch [
       | else-is_sender-via-then-is_sender+then-is_chare+else-contains w ↦
           let out : (c.args.sn < 1) ⊎ (60000 < c.args.sn) = search rules in
