@@ -4,6 +4,5 @@ pub mod Cases
 pub mod Machines
 pub mod Facts
 pub mod Words
-pub mod Together
 pub mod Digits
 pub mod First

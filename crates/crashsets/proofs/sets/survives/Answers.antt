@@ -4,7 +4,7 @@ use Rattle.std.proofs.Common.{◌∙◌, arith}
 use Rattle.arrays.specs.Loops.{each_hit, each_miss, each_end}
 use Rattle.frames.specs.Decode.{decoded}
 use Rattle.protocol.specs.Job.{machines_of}
-use Rattle.crashsets.specs.Together.{alone, survives_alone}
+use Rattle.crashsets.proofs.Together.{alone, survives_alone}
 use Rattle.crashsets.proofs.sets.survives.Goals as goal
 
 pub together-requires : goal.together-requires

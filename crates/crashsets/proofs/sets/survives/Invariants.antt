@@ -2,7 +2,8 @@ use Rattle.std.specs.Prelude.{◌≡◌, ◌+◌, ◌-◌, ◌≤◌}
 use Rattle.arrays.specs.Loops.{each}
 use Rattle.protocol.specs.Job.{machines_of, job_of}
 use Rattle.frames.specs.Decode.{decoded}
-use Rattle.crashsets.specs.{CrashSets.survives, Words.set_of, Together.alone}
+use Rattle.crashsets.specs.{CrashSets.survives, Words.set_of}
+use Rattle.crashsets.proofs.Together.{alone}
 use Rattle.crashsets.proofs.sets.survives.Given as goal
 
 abbrev pub invariant-loop-p : goal.invariant-loop-p
