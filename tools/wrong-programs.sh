@@ -54,7 +54,7 @@ wrong sitting "reads twice and stops" 'for _ in 0..u64::MAX {' 'for _ in 0..2u64
 wrong sitting "reads another file" 'stdin.read(input).ok()' 'std::io::empty().read(input).ok()'
 wrong sitting "writes the answers to another file" "$imports" "$with_write" 'if stdout.write_all(' 'if std::io::sink().write_all('
 wrong sitting "writes the last answer to another file" "$imports" "$with_write" 'let _ = stdout.write_all(' 'let _ = std::io::sink().write_all('
-wrong survivors "drops the piece that ends the line" 'return k;' 'return n;'
+wrong survivors "drops the piece that ends the line" 'break;' 'return n - got;'
 wrong sittings "takes nothing of a list" 'if n == 0 {' 'if n < 99999 {'
 wrong sittings "writes a blank after a name" 'let _ = rt.write_all(b"\n");' 'let _ = rt.write_all(b" ");'
 echo "$refused wrong programs refused by a run, $others not"
