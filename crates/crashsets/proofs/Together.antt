@@ -1,6 +1,6 @@
 -- Does a machine of a set stand together with its buddy? The machines 1 to M are asked in turn.
-use Rattle.std.specs.Prelude.{◌≡◌, refl, Bool, true, false, not, ◌&&◌, ◌||◌, List, ◌∷◌, ℕ, zero, suc, ◌+◌, ◌-◌, ◌≤◌}
-use Rattle.std.proofs.Common.{◌∙◌, arith}
+use Rattle.std.specs.Prelude.{◌≡◌, refl, Bool, true, not, ◌&&◌, ◌||◌, List, ℕ, zero, suc, ◌+◌, ◌-◌, ◌≤◌}
+use Rattle.std.proofs.Common.{arith}
 use Rattle.std.proofs.Math.Bool.{and-true, and_assoc, and_comm}
 use Rattle.lists.specs.{Tests.either, Lists.allb, Counting.counting}
 use Rattle.arrays.specs.Loops.{each}
