@@ -51,7 +51,7 @@ wrong() { # CRATE WHAT OLD NEW [OLD NEW]...
 }
 imports='use std::io::{Read, Stdin, Stdout};' with_write='use std::io::{Read, Stdin, Stdout, Write};'
 wrong sitting "reads twice and stops" 'for _ in 0..u64::MAX {' 'for _ in 0..2u64 {'
-wrong sitting "reads another file" 'stdin.read(input).ok()' 'std::io::empty().read(input).ok()'
+wrong sitting "reads another file" 'stdin.read(input)' 'std::io::empty().read(input)'
 wrong sitting "writes the answers to another file" "$imports" "$with_write" 'if stdout.write_all(' 'if std::io::sink().write_all('
 wrong sitting "writes the last answer to another file" "$imports" "$with_write" 'let _ = stdout.write_all(' 'let _ = std::io::sink().write_all('
 wrong survivors "drops the piece that ends the line" 'break;' 'return n - got;'

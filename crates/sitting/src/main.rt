@@ -1,10 +1,12 @@
 // Frames from standard input, answers to standard output, in constant memory.
 #![tactic(auto)]
 
+ghost use Rattle.std.specs.Prelude.{◌≡◌, MatchResult, Some, None};
 ghost use Rattle.store.specs.View.{view};
 ghost use Rattle.transcript.specs.View.{reading, Ending};
 ghost use Rattle.sitting.specs.Turns.{Answered, Turned, Played, len_of};
 
+use std::io;
 use std::io::{Read, Stdin, Stdout};
 use std::ops::ControlFlow;
 use store::STORE;
@@ -58,6 +60,13 @@ fn end(
     e
 }
 
+// What a read gave: how many bytes were read, none where it failed. A failed read is not the end of the input.
+fn bytes_read(got: io::Result<usize>) -> Option<usize>
+    ensures { MatchResult got (λ n. result ≡ Some n) (λ _. result ≡ None) }
+{
+    got.ok()
+}
+
 // What a read gave goes to the reader: that many bytes at the front of the input buffer, and never more than it has; none where it failed.
 fn turn(
     stdout: Stdout,
@@ -95,7 +104,7 @@ fn play(
 {
     let mut len = 0;
     for _ in 0..u64::MAX {
-        let got = stdin.read(input).ok();
+        let got = bytes_read(stdin.read(input));
         match turn(stdout, s, line, len, input, got, out) {
             ControlFlow::Continue(n) => len = n,
             ControlFlow::Break(_) => return,
