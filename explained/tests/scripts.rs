@@ -85,7 +85,7 @@ fn first_play(name: &str, rt: &str, proved: &[&str]) -> (PathBuf, (i32, String, 
 #[test]
 #[cfg_attr(not(library), ignore = "needs the engine's library")]
 fn satuphir_says_how_far_it_is() {
-    let most = "satuphir: proving and building the engine: 4 crates, five to seven minutes the first time (--quick does without)\n\
+    let most = "satuphir: proving and building the engine: 4 crates, a quarter of an hour the first time (--quick does without)\n\
                 satuphir: proved 1 of 4: lists\nsatuphir: proved 2 of 4: protocol\nsatuphir: proved 3 of 4: window\n";
     let said =
         format!("{most}satuphir: proved 4 of 4: satuphir\nsatuphir: writing the library ...\n");
